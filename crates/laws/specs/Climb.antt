@@ -1,0 +1,17 @@
+-- Climbing: a number is replaced by the function's value at it until the value is the number itself.
+use mathlib.Core.Bool.{Bool, true, false}
+use mathlib.Core.Option.{Option, none, some}
+use Prim.Native.Nat.{ℕ, zero, suc, _≤_}
+use lib.Dec.{eqb, ltb}
+use Rattle.laws.specs.Choice.{pick}
+
+-- A function that keeps order.
+abbrev pub Monotone : (ℕ → ℕ) → Type 0
+Monotone f = (x y : ℕ) → x ≤ y → f x ≤ f y
+
+-- From x, by at most `steps` values: none above the top, x where it is its own value, else from the value on.
+unfoldable pub climb : (ℕ → ℕ) → ℕ → ℕ → ℕ → Option ℕ
+climb f top zero x = none
+climb f top (suc steps) x =
+    let higher = climb f top steps (f x) in
+    pick (ltb top x) none (pick (eqb x (f x)) (some x) higher)

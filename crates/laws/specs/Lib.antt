@@ -1,0 +1,6 @@
+pub mod Choice
+pub mod Sum
+pub mod Search
+pub mod Climb
+pub mod Fill
+pub mod Bits
