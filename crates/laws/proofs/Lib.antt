@@ -1,0 +1,7 @@
+pub mod Order
+pub mod Choice
+pub mod Sum
+pub mod Search
+pub mod Climb
+pub mod Fill
+pub mod Bits

@@ -29,4 +29,5 @@ worked-by-hand =
       p8 = refl;
       p9 = refl;
       p10-at-2 = refl;
-      p10-at-3 = refl }
+      p10-at-3 = refl;
+    }

@@ -21,7 +21,8 @@ triples n words =
       rows = n;
       cost = λ k. getD words (3 * k) 0;
       deadline = λ k. getD words (3 * k + 1) 0;
-      period = λ k. getD words (3 * k + 2) 0 }
+      period = λ k. getD words (3 * k + 2) 0;
+    }
 
 -- A row's sizes: 1 ≤ C ≤ D ≤ T ≤ 1,000,000.
 unfoldable pub rowAllowed : ℕ → ℕ → ℕ → Bool

@@ -1,0 +1,54 @@
+-- Laws of a choice by a test, and of answers that may be missing.
+use mathlib.Core.Path.{_≡_, refl}
+use mathlib.Core.Bool.{Bool, true, false, _&&_}
+use mathlib.Core.Option.{Option, none, some}
+use Prim.Native.Nat.{ℕ, _≤_}
+use native.Mathlib.Nat.{le-refl, le-trans}
+use native.Mathlib.Omega.{arith}
+use Rattle.laws.specs.Choice.{pick, orElse, isSome, Better}
+
+-- A test does not both pass and fail.
+pub never-both : {test : Bool} → test ≡ true → test ≡ false → ⊥
+never-both passed failed = let same : _≡_ {A = ℕ} 0 1 = cc in omega arith
+
+-- Where the test holds the choice is the first.
+pub pick-yes : {A : Type 0} (test : Bool) (a b : A) → test ≡ true → pick test a b ≡ a
+pick-yes test a b yes-it-is = rw yes-it-is
+
+-- Where it does not, the second.
+pub pick-no : {A : Type 0} (test : Bool) (a b : A) → test ≡ false → pick test a b ≡ b
+pick-no test a b no-it-is = rw no-it-is
+
+-- Where both hold, each does; and the other way round.
+pub and-left : (a b : Bool) → (a && b) ≡ true → a ≡ true
+and-left true b h = refl
+and-left false b h = h
+
+pub and-right : (a b : Bool) → (a && b) ≡ true → b ≡ true
+and-right true b h = h
+and-right false b h = absurd (never-both h refl)
+
+pub and-both : (a b : Bool) → a ≡ true → b ≡ true → (a && b) ≡ true
+and-both true b h k = k
+and-both false b h k = h
+
+-- An answer is as good as itself.
+pub better-refl : (a : Option ℕ) → Better a a
+better-refl none = tt
+better-refl (some x) = le-refl x
+
+-- Better than better is better.
+pub better-trans : (a b c : Option ℕ) → Better a b → Better b c → Better a c
+better-trans none none none h k = tt
+better-trans none none (some z) h k = k
+better-trans none (some y) c h k = absurd h
+better-trans (some x) none none h k = tt
+better-trans (some x) none (some z) h k = absurd k
+better-trans (some x) (some y) none h k = tt
+better-trans (some x) (some y) (some z) h k = le-trans h k
+
+-- Where the worse answer exists, so does the better one.
+pub better-exists : (a b : Option ℕ) → Better a b → isSome b ≡ true → isSome a ≡ true
+better-exists none none h there = there
+better-exists none (some y) h there = absurd h
+better-exists (some x) b h there = refl

@@ -1,0 +1,108 @@
+-- Lists filled place by place and block by block hold what was put there. By induction on how many were put.
+use mathlib.Core.Path.{_≡_, refl, sym, _∙_, ap, ap₂}
+use mathlib.Core.Bool.{Bool, true, false, _&&_}
+use mathlib.Core.List.{List, [], _∷_, _++_, append-assoc}
+use mathlib.Core.Logic.{_⊎_, inl, inr, ⊎-elim}
+use Prim.Native.Nat.{ℕ, zero, suc, _+_, _*_, _-_, _≤_, _<_}
+use native.Mathlib.Nat.{eq-or-lt-of-le, le-of-suc-le-suc, le-step, le-antisymm, lt-suc-self, suc-mul, zero-mul, mul-le-mul-right, le-trans, le-refl}
+use native.Mathlib.Numerals.{add-one}
+use native.Mathlib.Omega.{arith}
+use borrow.Author.Tests.{eqb-true, eq-eqb}
+use lib.Dec.{eqb}
+use lib.ListN.{length, getD, take, drop, set, length-append, length-drop, List·getD-append}
+use lib.Seq.{ext-getD, drop-cons, set-at, take-all, take-at, drop-at, take-append-le, drop-append-le, drop-drop, getD-at, getD-take, getD-drop, append-snoc}
+use Rattle.laws.proofs.Choice.{never-both, and-left, and-right}
+use Rattle.laws.specs.Fill.{listed, joined, same, Below}
+
+-- As many as were listed.
+pub listed-length : (f : ℕ → ℕ) (n : ℕ) → length (listed f n) ≡ n
+unfolding listed
+listed-length f zero = refl
+listed-length f (suc n) = omega (arith, length-append (listed f n) (f n ∷ []), listed-length f n)
+
+-- At each place what was listed there.
+pub listed-at : (f : ℕ → ℕ) (n i : ℕ) → i < n → getD (listed f n) i 0 ≡ f i
+unfolding listed
+listed-at f zero i h = absurd (omega arith)
+listed-at f (suc n) i h =
+    ⊎-elim (λ (last : i ≡ n). rw last (getD-at (listed f n) (f n) [] 0 n (listed-length f n)))
+    (λ (before : i < n). List·getD-append (listed f n) (f n ∷ []) 0 i (rw listed-length before) ∙ listed-at f n i before)
+    (eq-or-lt-of-le (le-of-suc-le-suc h))
+
+-- Two listings are the same where each place is.
+pub listed-same : (f g : ℕ → ℕ) (n : ℕ) → ((i : ℕ) → i < n → f i ≡ g i) → listed f n ≡ listed g n
+unfolding listed
+listed-same f g zero each = refl
+listed-same f g (suc n) each =
+    ap₂ (λ (l : List ℕ) (x : ℕ). l ++ (x ∷ [])) (listed-same f g n (λ i h. each i (le-step h))) (each n (lt-suc-self n))
+
+-- Storing the next value behind those listed lists one more.
+pub listed-fill : (f : ℕ → ℕ) (i : ℕ) (l : List ℕ) → i < length l → set (listed f i ++ drop i l) i (f i) ≡ listed f (i + 1) ++ drop (i + 1) l
+unfolding listed
+listed-fill f i l h =
+    rw (add-one, drop-cons l i 0 h)
+    (set-at (listed f i) (getD l i 0) (drop (suc i) l) (f i) i (listed-length f i) ∙ sym (append-snoc (listed f i) (f i) (drop (suc i) l)))
+
+-- A list is the listing of what stands at its places.
+pub listed-back : (l : List ℕ) (n : ℕ) → length l ≡ n → listed (λ i. getD l i 0) n ≡ l
+listed-back l n size =
+    ext-getD 0 (listed (λ i. getD l i 0) n) l (listed-length (λ i. getD l i 0) n ∙ sym size)
+    (λ i h. listed-at (λ i. getD l i 0) n i (rw listed-length at h))
+
+-- A block put behind a front, over whatever stood there: the front has grown by it, and what lies behind is as it was.
+pub put-block : (front block l : List ℕ) (a k : ℕ) → length front ≡ a → length block ≡ k
+    → take a (front ++ drop a l) ++ (block ++ drop k (drop a (front ++ drop a l))) ≡ (front ++ block) ++ drop (a + k) l
+put-block front block l a k front-size block-size =
+    rw (take-at front (drop a l) a front-size, drop-at front (drop a l) a front-size, drop-drop k a l)
+    (sym (append-assoc front block (drop (a + k) l)))
+
+-- Blocks of one size: as many bytes as blocks times the size.
+pub joined-length : (f : ℕ → List ℕ) (k n : ℕ) → ((j : ℕ) → j < n → length (f j) ≡ k) → length (joined f n) ≡ n * k
+unfolding joined
+joined-length f k zero size = sym (zero-mul k)
+joined-length f k (suc n) size =
+    omega (arith, length-append (joined f n) (f n), joined-length f k n (λ j h. size j (le-step h)), size n (lt-suc-self n), suc-mul n k)
+
+-- Each block stands where its number says, and comes back whole.
+pub joined-block : (f : ℕ → List ℕ) (k n j : ℕ) → ((i : ℕ) → i < n → length (f i) ≡ k) → j < n
+    → take k (drop (j * k) (joined f n)) ≡ f j
+unfolding joined
+joined-block f k zero j size h = absurd (omega arith)
+joined-block f k (suc n) j size h =
+    let sizes : (i : ℕ) → i < n → length (f i) ≡ k = λ i h. size i (le-step h) in
+    let whole : length (joined f n) ≡ n * k = joined-length f k n sizes in
+    ⊎-elim
+    (λ (last : j ≡ n). rw (last, drop-at (joined f n) (f n) (n * k) whole) (take-all k (f n) (omega (arith, size n (lt-suc-self n)))))
+    (λ (before : j < n).
+    let room : suc j * k ≤ n * k = mul-le-mul-right k before in
+    let front : j * k + k ≤ length (joined f n) = omega (arith, suc-mul j k) in
+    let left : k ≤ length (drop (j * k) (joined f n)) = omega (arith, length-drop (j * k) (joined f n)) in
+    rw (drop-append-le (j * k) (joined f n) (f n) (omega arith), take-append-le k (drop (j * k) (joined f n)) (f n) left)
+    (joined-block f k n j sizes before))
+    (eq-or-lt-of-le (le-of-suc-le-suc h))
+
+-- Place i of block j is place j × k + i of the whole.
+pub joined-at : (f : ℕ → List ℕ) (k n j i : ℕ) → ((i : ℕ) → i < n → length (f i) ≡ k) → j < n → i < k
+    → getD (joined f n) (j * k + i) 0 ≡ getD (f j) i 0
+joined-at f k n j i size h inside =
+    sym (getD-drop (j * k) (joined f n) i 0)
+    ∙ sym (getD-take k (drop (j * k) (joined f n)) i 0 inside)
+    ∙ ap (λ (l : List ℕ). getD l i 0) (joined-block f k n j size h)
+
+-- Equal by the test is equal, and a list is equal to itself.
+pub same-true : (a b : List ℕ) → same a b ≡ true → a ≡ b
+unfolding same
+same-true [] [] h = refl
+same-true [] (y ∷ ys) h = absurd (never-both h refl)
+same-true (x ∷ xs) [] h = absurd (never-both h refl)
+same-true (x ∷ xs) (y ∷ ys) h = ap₂ _∷_ (eqb-true x y (and-left (eqb x y) (same xs ys) h)) (same-true xs ys (and-right (eqb x y) (same xs ys) h))
+
+pub same-self : (a : List ℕ) → same a a ≡ true
+unfolding same
+same-self [] = refl
+same-self (x ∷ xs) = rw (eq-eqb x x refl) (same-self xs)
+
+-- Lists of one length, each below the other, are the same.
+pub below-antisymm : (n : ℕ) (Q R : List ℕ) → length Q ≡ n → length R ≡ n → Below n Q R → Below n R Q → Q ≡ R
+below-antisymm n Q R q r low high =
+    ext-getD 0 Q R (q ∙ sym r) (λ i h. let inside : i < n = omega arith in le-antisymm (low i inside) (high i inside))

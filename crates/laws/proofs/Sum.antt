@@ -1,0 +1,73 @@
+-- Laws of sums over places, by induction on the number of places.
+use mathlib.Core.Path.{_≡_, refl, ap₂}
+use mathlib.Core.Bool.{Bool, true, false}
+use mathlib.Core.Logic.{_⊎_, inl, inr, ⊎-elim}
+use Prim.Native.Nat.{ℕ, zero, suc, _+_, _≤_, _<_}
+use native.Mathlib.Nat.{add-le-add, eq-or-lt-of-le, le-of-suc-le-suc, le-step, le-refl, lt-suc-self, add-lt-add-of-lt-of-le, add-lt-add-of-le-of-lt}
+use native.Mathlib.Numerals.{add-one}
+use native.Mathlib.Omega.{arith}
+use borrow.Author.Tests.{eq-eqb, ne-eqb}
+use lib.Dec.{eqb}
+use Rattle.laws.specs.Choice.{pick}
+use Rattle.laws.specs.Sum.{total, unless}
+use Rattle.laws.proofs.Choice.{pick-yes, pick-no}
+
+-- One place more adds its value.
+pub total-step : (f : ℕ → ℕ) (n : ℕ) → total f (n + 1) ≡ total f n + f n
+unfolding total
+total-step f n = rw add-one
+
+-- A sum is no larger where no term is.
+pub total-mono : (f g : ℕ → ℕ) (n : ℕ) → ((i : ℕ) → i < n → f i ≤ g i) → total f n ≤ total g n
+unfolding total
+total-mono f g zero each = le-refl 0
+total-mono f g (suc n) each = add-le-add (total-mono f g n (λ i h. each i (le-step h))) (each n (lt-suc-self n))
+
+-- A sum is the same where each term is.
+pub total-same : (f g : ℕ → ℕ) (n : ℕ) → ((i : ℕ) → i < n → f i ≡ g i) → total f n ≡ total g n
+unfolding total
+total-same f g zero each = refl
+total-same f g (suc n) each = ap₂ _+_ (total-same f g n (λ i h. each i (le-step h))) (each n (lt-suc-self n))
+
+-- A sum of sums is the sum of both.
+pub total-add : (f g : ℕ → ℕ) (n : ℕ) → total (λ i. f i + g i) n ≡ total f n + total g n
+unfolding total
+total-add f g zero = refl
+total-add f g (suc n) = omega (arith, total-add f g n)
+
+-- A sum is smaller where no term is larger and one is smaller.
+pub total-strict : (f g : ℕ → ℕ) (n k : ℕ) → ((i : ℕ) → i < n → f i ≤ g i) → k < n → f k < g k → total f n < total g n
+unfolding total
+total-strict f g zero k each here less = absurd (omega arith)
+total-strict f g (suc n) k each here less =
+    let below : (i : ℕ) → i < n → f i ≤ g i = λ i h. each i (le-step h) in
+    ⊎-elim (λ (last : k ≡ n). add-lt-add-of-le-of-lt (total-mono f g n below) (rw last at less))
+    (λ (before : k < n). add-lt-add-of-lt-of-le (total-strict f g n k below before less) (each n (lt-suc-self n)))
+    (eq-or-lt-of-le (le-of-suc-le-suc here))
+
+-- A term is no larger than the sum.
+pub term-within : (f : ℕ → ℕ) (n k : ℕ) → k < n → f k ≤ total f n
+unfolding total
+term-within f zero k here = absurd (omega arith)
+term-within f (suc n) k here =
+    ⊎-elim (λ (last : k ≡ n). rw last (omega arith)) (λ (before : k < n). omega (arith, term-within f n k before))
+    (eq-or-lt-of-le (le-of-suc-le-suc here))
+
+-- At the place left out there is 0.
+pub unless-here : (k : ℕ) (f : ℕ → ℕ) → unless k f k ≡ 0
+unfolding unless
+unless-here k f = pick-yes _ _ _ (eq-eqb k k refl)
+
+-- At every other place there is f.
+pub unless-other : (k : ℕ) (f : ℕ → ℕ) (i : ℕ) → (i ≡ k → ⊥) → unless k f i ≡ f i
+unfolding unless
+unless-other k f i other = pick-no _ _ _ (ne-eqb i k other)
+
+-- A sum over every other place is no larger where no term is.
+pub unless-mono : (k : ℕ) (f g : ℕ → ℕ) (i : ℕ) → f i ≤ g i → unless k f i ≤ unless k g i
+unfolding unless
+unless-mono k f g i h = split (eqb i k)
+  where
+    split : (b : Bool) → pick b 0 (f i) ≤ pick b 0 (g i)
+    split true = le-refl 0
+    split false = h
