@@ -1,11 +1,12 @@
 -- Laws of a choice by a test, and of answers that may be missing.
-use mathlib.Core.Path.{_≡_, refl}
+use mathlib.Core.Path.{_≡_, refl, sym, _∙_}
 use mathlib.Core.Bool.{Bool, true, false, _&&_}
 use mathlib.Core.Option.{Option, none, some}
 use Prim.Native.Nat.{ℕ, _≤_}
 use native.Mathlib.Nat.{le-refl, le-trans}
 use native.Mathlib.Omega.{arith}
-use Rattle.laws.specs.Choice.{pick, orElse, isSome, Better}
+use borrow.Author.Tests.{eq-eqb, ne-eqb}
+use Rattle.laws.specs.Choice.{pick, unlessRefused, orElse, isSome, Better}
 
 -- A test does not both pass and fail.
 pub never-both : {test : Bool} → test ≡ true → test ≡ false → ⊥
@@ -18,6 +19,19 @@ pick-yes test a b yes-it-is = rw yes-it-is
 -- Where it does not, the second.
 pub pick-no : {A : Type 0} (test : Bool) (a b : A) → test ≡ false → pick test a b ≡ b
 pick-no test a b no-it-is = rw no-it-is
+
+-- With number 0 the answer is what was worked out; with any other it is the refused one.
+pub not-refused : {A : Type 0} (number : ℕ) (refused worked : A) → number ≡ 0 → unlessRefused number refused worked ≡ worked
+unfolding unlessRefused
+not-refused number refused worked none-holds = pick-yes _ worked refused (eq-eqb number 0 none-holds)
+
+pub is-refused : {A : Type 0} (number : ℕ) (refused worked : A) → (number ≡ 0 → ⊥) → unlessRefused number refused worked ≡ refused
+unfolding unlessRefused
+is-refused number refused worked one-holds = pick-no _ worked refused (ne-eqb number 0 one-holds)
+
+-- Two results that one definition allows are equal.
+pub one-answer : {A : Type 0} {definition first second : A} → first ≡ definition → second ≡ definition → first ≡ second
+one-answer h k = h ∙ sym k
 
 -- Where both hold, each does; and the other way round.
 pub and-left : (a b : Bool) → (a && b) ≡ true → a ≡ true

@@ -2,11 +2,16 @@
 use mathlib.Core.Bool.{Bool, true, false}
 use mathlib.Core.Option.{Option, none, some}
 use Prim.Native.Nat.{ℕ, _≤_}
+use lib.Dec.{eqb}
 
 -- The first where the test holds, else the second.
 abbrev pub pick : {A : Type 0} → Bool → A → A → A
 pick true a b = a
 pick false a b = b
+
+-- An entry's answer: the refused one where the refusal's number is not 0, else what it worked out.
+unfoldable pub unlessRefused : {A : Type 0} → ℕ → A → A → A
+unlessRefused number refused worked = pick (eqb number 0) worked refused
 
 -- The answer, or the other number where there is none.
 abbrev pub orElse : Option ℕ → ℕ → ℕ
