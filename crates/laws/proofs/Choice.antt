@@ -66,3 +66,10 @@ pub better-exists : (a b : Option ℕ) → Better a b → isSome b ≡ true → 
 better-exists none none h there = there
 better-exists none (some y) h there = absurd h
 better-exists (some x) b h there = refl
+
+-- With the other number no smaller than the better answer, better is no larger.
+pub better-orElse : (a b : Option ℕ) (other : ℕ) → Better a b → ((x : ℕ) → a ≡ some x → x ≤ other) → orElse a other ≤ orElse b other
+better-orElse none none other h within = le-refl other
+better-orElse none (some y) other h within = absurd h
+better-orElse (some x) none other h within = within x refl
+better-orElse (some x) (some y) other h within = h

@@ -12,6 +12,9 @@ use lib.Dec.{eqb}
 use lib.ListN.{length, getD, take, drop, set, length-append, length-drop, List·getD-append}
 use lib.Seq.{ext-getD, drop-cons, set-at, take-all, take-at, drop-at, take-append-le, drop-append-le, drop-drop, getD-at, getD-take, getD-drop, append-snoc}
 use Rattle.laws.proofs.Choice.{never-both, and-left, and-right}
+use Rattle.laws.specs.Sum.{total}
+use Rattle.laws.proofs.Order.{below-or-from}
+use Rattle.laws.proofs.Sum.{total-tight}
 use Rattle.laws.specs.Fill.{listed, joined, same, Below}
 
 -- As many as were listed.
@@ -106,3 +109,15 @@ same-self (x ∷ xs) = rw (eq-eqb x x refl) (same-self xs)
 pub below-antisymm : (n : ℕ) (Q R : List ℕ) → length Q ≡ n → length R ≡ n → Below n Q R → Below n R Q → Q ≡ R
 below-antisymm n Q R q r low high =
     ext-getD 0 Q R (q ∙ sym r) (λ i h. let inside : i < n = omega arith in le-antisymm (low i inside) (high i inside))
+
+-- A list below another of its length, and not the same, has the smaller sum.
+pub below-lowers : (n : ℕ) (Q R : List ℕ) → length Q ≡ n → length R ≡ n → Below n Q R → (Q ≡ R → ⊥)
+    → total (λ i. getD Q i 0) n < total (λ i. getD R i 0) n
+below-lowers n Q R q r low differ =
+    ⊎-elim (λ (less : total (λ i. getD Q i 0) n < total (λ i. getD R i 0) n). less)
+    (λ (whole : total (λ i. getD R i 0) n ≤ total (λ i. getD Q i 0) n).
+    absurd
+    (differ
+    (ext-getD 0 Q R (q ∙ sym r)
+    (λ i h. total-tight (λ i. getD Q i 0) (λ i. getD R i 0) n low whole i (rw q at h)))))
+    (below-or-from (total (λ i. getD Q i 0) n) (total (λ i. getD R i 0) n))

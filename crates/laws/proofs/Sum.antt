@@ -3,13 +3,14 @@ use mathlib.Core.Path.{_≡_, refl, ap₂}
 use mathlib.Core.Bool.{Bool, true, false}
 use mathlib.Core.Logic.{_⊎_, inl, inr, ⊎-elim}
 use Prim.Native.Nat.{ℕ, zero, suc, _+_, _≤_, _<_}
-use native.Mathlib.Nat.{add-le-add, eq-or-lt-of-le, le-of-suc-le-suc, le-step, le-refl, lt-suc-self, add-lt-add-of-lt-of-le, add-lt-add-of-le-of-lt}
+use native.Mathlib.Nat.{add-le-add, eq-or-lt-of-le, le-of-suc-le-suc, le-step, le-refl, lt-suc-self, add-lt-add-of-lt-of-le, add-lt-add-of-le-of-lt, not-le-of-lt, le-antisymm}
 use native.Mathlib.Numerals.{add-one}
 use native.Mathlib.Omega.{arith}
 use borrow.Author.Tests.{eq-eqb, ne-eqb}
 use lib.Dec.{eqb}
 use Rattle.laws.specs.Choice.{pick}
 use Rattle.laws.specs.Sum.{total, unless}
+use Rattle.laws.proofs.Order.{below-or-from}
 use Rattle.laws.proofs.Choice.{pick-yes, pick-no}
 
 -- One place more adds its value.
@@ -44,6 +45,13 @@ total-strict f g (suc n) k each here less =
     ⊎-elim (λ (last : k ≡ n). add-lt-add-of-le-of-lt (total-mono f g n below) (rw last at less))
     (λ (before : k < n). add-lt-add-of-lt-of-le (total-strict f g n k below before less) (each n (lt-suc-self n)))
     (eq-or-lt-of-le (le-of-suc-le-suc here))
+
+-- Where no term is larger and the sum is not smaller, each term is the same.
+pub total-tight : (f g : ℕ → ℕ) (n : ℕ) → ((i : ℕ) → i < n → f i ≤ g i) → total g n ≤ total f n → (k : ℕ) → k < n → f k ≡ g k
+total-tight f g n each whole k here =
+    ⊎-elim (λ (less : f k < g k). absurd (not-le-of-lt (total-strict f g n k each here less) whole))
+    (λ (not-less : g k ≤ f k). le-antisymm (each k here) not-less)
+    (below-or-from (f k) (g k))
 
 -- A term is no larger than the sum.
 pub term-within : (f : ℕ → ℕ) (n k : ℕ) → k < n → f k ≤ total f n

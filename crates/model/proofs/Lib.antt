@@ -1,1 +1,9 @@
+pub mod Sheet
+pub mod Interference
+pub mod Answer
+pub mod Refine
+pub mod Engines
+pub mod Methods
+pub mod Demand
 pub mod Numbers
+pub mod Slips

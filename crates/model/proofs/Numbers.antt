@@ -1,12 +1,19 @@
--- P1 to P10 hold: both sides compute to the same.
+-- P1 to P10, what the engines do on S, and the sheets that tell: both sides compute to the same.
 use mathlib.Core.Path.{_≡_, refl}
+use mathlib.Core.List.{List, [], _∷_}
+use Prim.Native.Nat.{ℕ, zero, suc, _<_}
+use native.Mathlib.Omega.{arith}
+use lib.ListN.{getD}
 use Rattle.laws.specs.Sum.{total, unless}
 use Rattle.laws.specs.Search.{least}
+use Rattle.laws.specs.Fill.{listed, same}
+use Rattle.laws.specs.Bits.{bits}
 use Rattle.model.specs.Sheet.{triples}
 use Rattle.model.specs.Interference.{share, carried, work, shareOf, workOf, others, bclTerm, bclValue, rtaTerm, rtaRight}
-use Rattle.model.specs.Answer.{bclAnswer, rtaAnswer, answer}
+use Rattle.model.specs.Answer.{RTA, bclAnswer, rtaAnswer, answer}
+use Rattle.model.specs.Refine.{deadlines, turn, round, sweep, until, passes, rounds, atOnce, marked, marks}
 use Rattle.model.specs.Demand.{rowDemand, demandOf, demand, ceiling, busyOf, busy, busyLength, firstMiss, judged, verdict}
-use Rattle.model.specs.Numbers.{WorkedByHand}
+use Rattle.model.specs.Numbers.{WorkedByHand, Runs, needsDeadlines, Telling}
 
 pub worked-by-hand : WorkedByHand
 unfolding total unless least triples share carried work shareOf workOf others bclTerm bclValue rtaTerm rtaRight bclAnswer rtaAnswer answer rowDemand demandOf demand ceiling busyOf busy busyLength firstMiss judged verdict
@@ -30,4 +37,37 @@ worked-by-hand =
       p9 = refl;
       p10-at-2 = refl;
       p10-at-3 = refl;
+    }
+
+pub runs : Runs
+unfolding total unless least listed same bits triples share carried work shareOf workOf others rtaTerm rtaRight rtaAnswer answer deadlines turn round sweep until passes rounds atOnce marked marks rowDemand demandOf demand ceiling busyOf busy busyLength firstMiss judged verdict
+runs =
+    record {
+      first-round = refl;
+      second-round = refl;
+      third-round = refl;
+      rounds-end = refl;
+      at-once-end = refl;
+      all-marked = refl;
+      single-at-4 = refl;
+      single-at-5 = refl;
+    }
+
+-- Rows 0 and 1 of the smaller set are their own turns; there is no other row.
+own-turns : (k : ℕ) → k < 2 → getD (1 ∷ 2 ∷ []) k 0 ≡ turn needsDeadlines (answer RTA needsDeadlines 1) k (1 ∷ 2 ∷ [])
+unfolding total unless least triples share carried work shareOf workOf others rtaTerm rtaRight rtaAnswer answer turn
+own-turns zero h = refl
+own-turns (suc zero) h = refl
+own-turns (suc (suc k)) h = absurd (omega arith)
+
+pub telling : Telling
+unfolding total unless least listed same bits triples share carried work shareOf workOf others rtaTerm rtaRight rtaAnswer answer deadlines turn round sweep until passes rounds atOnce marked marks
+telling =
+    record {
+      with-work = (refl, refl);
+      both-marked = refl;
+      one-sweep = refl;
+      more-sweeps = (refl, refl);
+      smaller-set = record { one-each = refl; by-turn = own-turns };
+      largest-set = (refl, refl);
     }

@@ -1,4 +1,4 @@
--- Numbers worked by hand: cases P1 to P10, as one table.
+-- Numbers worked by hand: cases P1 to P10, as one table; what the engines do on S; and sheets that tell wrong tools from right ones.
 use mathlib.Core.Path.{_≡_}
 use mathlib.Core.List.{List, [], _∷_}
 use mathlib.Core.Option.{Option, none, some}
@@ -6,6 +6,7 @@ use Prim.Native.Nat.{ℕ}
 use Rattle.model.specs.Sheet.{Sheet, triples}
 use Rattle.model.specs.Interference.{share, work}
 use Rattle.model.specs.Answer.{Method, BCL, RTA, answer}
+use Rattle.model.specs.Refine.{Ask, round, sweep, rounds, atOnce, marks, Consistent}
 use Rattle.model.specs.Demand.{rowDemand, verdict, miss, fits, undecided}
 
 -- Case S: three rows, two of them twins.
@@ -52,3 +53,45 @@ pub record WorkedByHand : Type 0 where
   -- (2,2,4),(2,3,4), horizons 2 and 3.
   pub p10-at-2 : verdict missing 2 ≡ undecided
   pub p10-at-3 : verdict missing 3 ≡ miss 3
+
+-- One row (5,5,10).
+abbrev pub single : Sheet
+single = triples 1 (5 ∷ 5 ∷ 10 ∷ [])
+
+-- RTA on S with two processors.
+abbrev pub askS : Ask
+askS = answer RTA caseS 2
+
+pub record Runs : Type 0 where
+  -- Rounds on S give 4,4,6, then 4,4,5, then no change.
+  pub first-round : round caseS askS (5 ∷ 5 ∷ 6 ∷ []) ≡ 4 ∷ 4 ∷ 6 ∷ []
+  pub second-round : round caseS askS (4 ∷ 4 ∷ 6 ∷ []) ≡ 4 ∷ 4 ∷ 5 ∷ []
+  pub third-round : round caseS askS (4 ∷ 4 ∷ 5 ∷ []) ≡ 4 ∷ 4 ∷ 5 ∷ []
+  pub rounds-end : rounds caseS askS ≡ 4 ∷ 4 ∷ 5 ∷ []
+  -- The at-once engine ends at 4,4,5, and every row is marked.
+  pub at-once-end : atOnce caseS askS ≡ 4 ∷ 4 ∷ 5 ∷ []
+  pub all-marked : marks caseS askS (4 ∷ 4 ∷ 5 ∷ []) ≡ 7
+  -- One row (5,5,10): horizon 4 undecided, 5 fits 5.
+  pub single-at-4 : verdict single 4 ≡ undecided
+  pub single-at-5 : verdict single 5 ≡ fits 5
+
+-- (1,1,2),(1,3,3): an RTA that leaves W out of the `min` does not mark row 1.
+abbrev pub needsWork : Sheet
+needsWork = triples 2 (1 ∷ 1 ∷ 2 ∷ 1 ∷ 3 ∷ 3 ∷ [])
+
+-- (1,2,2),(1,5,5): an engine that stops after one sweep keeps 2,3.
+abbrev pub needsSweeps : Sheet
+needsSweeps = triples 2 (1 ∷ 2 ∷ 2 ∷ 1 ∷ 5 ∷ 5 ∷ [])
+
+-- (1,2,2),(1,4,4): an engine that starts at the costs ends at 1,2, which is consistent and not the largest.
+abbrev pub needsDeadlines : Sheet
+needsDeadlines = triples 2 (1 ∷ 2 ∷ 2 ∷ 1 ∷ 4 ∷ 4 ∷ [])
+
+-- Three sheets, RTA on one processor, each with its end by both engines.
+pub record Telling : Type 0 where
+  pub with-work : (rounds needsWork (answer RTA needsWork 1) ≡ 1 ∷ 2 ∷ []) × (atOnce needsWork (answer RTA needsWork 1) ≡ 1 ∷ 2 ∷ [])
+  pub both-marked : marks needsWork (answer RTA needsWork 1) (1 ∷ 2 ∷ []) ≡ 3
+  pub one-sweep : sweep needsSweeps (answer RTA needsSweeps 1) 2 (2 ∷ 5 ∷ []) ≡ 2 ∷ 3 ∷ []
+  pub more-sweeps : (rounds needsSweeps (answer RTA needsSweeps 1) ≡ 1 ∷ 2 ∷ []) × (atOnce needsSweeps (answer RTA needsSweeps 1) ≡ 1 ∷ 2 ∷ [])
+  pub smaller-set : Consistent needsDeadlines (answer RTA needsDeadlines 1) (1 ∷ 2 ∷ [])
+  pub largest-set : (rounds needsDeadlines (answer RTA needsDeadlines 1) ≡ 2 ∷ 3 ∷ []) × (atOnce needsDeadlines (answer RTA needsDeadlines 1) ≡ 2 ∷ 3 ∷ [])

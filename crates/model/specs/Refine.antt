@@ -1,14 +1,15 @@
 -- Refining a sheet, over any one-row answer: turn, round, sweep, the two engines, marks; consistent and largest.
 use mathlib.Core.Path.{_≡_}
-use mathlib.Core.Bool.{Bool}
+use mathlib.Core.Bool.{Bool, true, false}
 use mathlib.Core.List.{List}
+use mathlib.Core.Logic.{_↔_}
 use mathlib.Core.Option.{Option}
-use Prim.Native.Nat.{ℕ, zero, suc, _+_, _-_, _≤_, _<_}
+use Prim.Native.Nat.{ℕ, zero, suc, _-_, _^_, _≤_, _<_}
 use lib.ListN.{length, getD, set}
-use Rattle.laws.specs.Choice.{pick, orElse, isSome}
+use Rattle.laws.specs.Choice.{pick, orElse, isSome, Better}
 use Rattle.laws.specs.Sum.{total}
 use Rattle.laws.specs.Fill.{listed, same, Below}
-use Rattle.laws.specs.Bits.{bits, every}
+use Rattle.laws.specs.Bits.{bit, bits, bitAt, every}
 use Rattle.model.specs.Sheet.{Sheet}
 
 -- A one-row answer: of a row under current bounds.
@@ -74,3 +75,30 @@ Supported s ask Q = (k : ℕ) → k < s .rows → getD Q k 0 ≤ turn s ask k Q
 pub record Largest (s : Sheet) (ask : Ask) (R : List ℕ) : Type 0 where
   pub consistent : Consistent s ask R
   pub above : (Q : List ℕ) → Consistent s ask Q → Below (s .rows) Q R
+
+-- Demand 3, of a sheet and a one-row answer: both engines end after a pass that changes nothing, at the same bounds and marks, which are
+-- the largest consistent set, and the only one; a row not marked has its deadline.
+pub record SameEnd (s : Sheet) (ask : Ask) : Type 0 where
+  pub rounds-end : round s ask (rounds s ask) ≡ rounds s ask
+  pub at-once-ends : sweep s ask (s .rows) (atOnce s ask) ≡ atOnce s ask
+  pub same-bounds : rounds s ask ≡ atOnce s ask
+  pub same-marks : marks s ask (rounds s ask) ≡ marks s ask (atOnce s ask)
+  pub largest : Largest s ask (rounds s ask)
+  pub only : (R : List ℕ) → Largest s ask R → R ≡ rounds s ask
+  pub unmarked : (k : ℕ) → k < s .rows → marked ask (rounds s ask) k ≡ false → getD (rounds s ask) k 0 ≡ s .deadline k
+
+-- What marks say: bit k is set exactly if row k is marked, bits at and above the row count are 0, and all are set exactly if the sheet is
+-- accepted.
+pub record MarksSay (s : Sheet) (ask : Ask) (R : List ℕ) : Type 0 where
+  pub within : marks s ask R < 2 ^ s .rows
+  pub each : (k : ℕ) → k < s .rows → bitAt (marks s ask R) k ≡ bit (marked ask R k)
+  pub past : (k : ℕ) → s .rows ≤ k → bitAt (marks s ask R) k ≡ 0
+  pub full : (accepted s ask R ≡ true) ↔ (marks s ask R ≡ 2 ^ s .rows - 1)
+
+-- One test is at least as good as another on a sheet: row by row at any bounds, in the final bounds, marks and acceptance.
+pub record Dominates (s : Sheet) (better worse : Ask) : Type 0 where
+  pub each-row : (k : ℕ) (R : List ℕ) → Better (better k R) (worse k R)
+  pub bounds : Below (s .rows) (rounds s better) (rounds s worse)
+  pub answers : (k : ℕ) → Better (better k (rounds s better)) (worse k (rounds s worse))
+  pub keeps-marks : (k : ℕ) → marked worse (rounds s worse) k ≡ true → marked better (rounds s better) k ≡ true
+  pub keeps-accepted : accepted s worse (rounds s worse) ≡ true → accepted s better (rounds s better) ≡ true

@@ -1,0 +1,92 @@
+-- The one-row answers mean what they say: RTA's by the law of a search, BCL's by its one test. The meaning fixes the answer, and a climb
+-- from the cost reaches RTA's.
+use mathlib.Core.Path.{_≡_, refl, sym, _∙_, ap}
+use mathlib.Core.Bool.{Bool, true, false}
+use mathlib.Core.List.{List}
+use mathlib.Core.Option.{Option, none, some}
+use Prim.Native.Nat.{ℕ, _+_, _-_, _≤_, _<_}
+use native.Mathlib.Nat.{le-refl, le-trans}
+use native.Mathlib.Omega.{arith}
+use borrow.Author.Tests.{eqb-true, eqb-false, eq-eqb, ne-eqb, leb-true, leb-false, le-leb, lt-leb}
+use lib.Dec.{leb, eqb}
+use Rattle.laws.specs.Choice.{pick, Better}
+use Rattle.laws.specs.Search.{least, First, Nothing, Searched}
+use Rattle.laws.specs.Climb.{fixed, climb}
+use Rattle.laws.specs.Fill.{Below}
+use Rattle.laws.proofs.Choice.{pick-yes, pick-no}
+use Rattle.laws.proofs.Search.{least-means, least-fixed}
+use Rattle.laws.proofs.Climb.{climb-reaches, fixed-below}
+use Rattle.model.specs.Sheet.{Sheet}
+use Rattle.model.specs.Interference.{bclValue, rtaRight}
+use Rattle.model.specs.Answer.{Method, BCL, RTA, bclAnswer, rtaAnswer, answer, Response, NoResponse, Formula, Answers}
+use Rattle.model.proofs.Interference.{rtaRight-mono, rtaRight-rises, rtaRight-from-cost, bclValue-mono, bclValue-from-cost, rta-within-bcl}
+
+module _ (s : Sheet) (m k : ℕ) (R : List ℕ) where
+  -- The search for a fixed value over C to D, in the words of demand 2.
+  response : (r : Option ℕ) → Searched (fixed (rtaRight s m k R)) (s .cost k) (s .deadline k + 1 - s .cost k) r → Answers RTA s m k R r
+  response none h = λ y low high own. eqb-false y (rtaRight s m k R y) (h y low (omega arith)) own
+  response (some x) h =
+      let low : s .cost k ≤ x = h .from in
+      let high : x < s .cost k + (s .deadline k + 1 - s .cost k) = h .inside in
+      record {
+        from-cost = low;
+        by-deadline = omega arith;
+        solves = eqb-true x (rtaRight s m k R x) (h .passes);
+        lowest = λ y from below. eqb-false y (rtaRight s m k R y) (h .lowest y from below);
+      }
+
+  -- And back.
+  searched : (r : Option ℕ) → Answers RTA s m k R r → Searched (fixed (rtaRight s m k R)) (s .cost k) (s .deadline k + 1 - s .cost k) r
+  searched none h = λ y low high. ne-eqb y (rtaRight s m k R y) (h y low (omega arith))
+  searched (some x) h =
+      let low : s .cost k ≤ x = h .from-cost in
+      let high : x ≤ s .deadline k = h .by-deadline in
+      record {
+        passes = eq-eqb x (rtaRight s m k R x) (h .solves);
+        from = low;
+        inside = omega arith;
+        lowest = λ y from below. ne-eqb y (rtaRight s m k R y) (h .lowest y from below);
+      }
+
+  -- BCL's answer by its test.
+  formula : (meets : Bool) → leb (bclValue s m k R) (s .deadline k) ≡ meets
+      → Answers BCL s m k R (pick meets (some (bclValue s m k R)) none)
+  formula true meets = record { value = refl; by-deadline = leb-true _ _ meets }
+  formula false fails = leb-false _ _ fails
+
+  -- An answer means what demand 2 says: a found one lies from the cost to the deadline, solves the equation (is the formula's value), and
+  -- nothing lower solves it; none is given only where there is none.
+  pub answer-means : (method : Method) → Answers method s m k R (answer method s m k R)
+  unfolding answer bclAnswer rtaAnswer
+  answer-means BCL = formula (leb (bclValue s m k R) (s .deadline k)) refl
+  answer-means RTA = response (rtaAnswer s m k R) (least-means (fixed (rtaRight s m k R)) (s .cost k) (s .deadline k + 1 - s .cost k))
+
+  -- The meaning fixes the answer.
+  pub answer-fixed : (method : Method) (a : Option ℕ) → Answers method s m k R a → answer method s m k R ≡ a
+  unfolding answer bclAnswer rtaAnswer
+  answer-fixed BCL none over = pick-no _ _ _ (lt-leb _ _ over)
+  answer-fixed BCL (some q) h =
+      pick-yes _ _ _ (le-leb _ _ (rw (h .value) at (h .by-deadline))) ∙ ap {B = Option ℕ} some (sym (h .value))
+  answer-fixed RTA a h =
+      least-fixed (fixed (rtaRight s m k R)) (s .cost k) (s .deadline k + 1 - s .cost k) a (searched a h)
+
+  -- Climbing from the cost, value by value, reaches RTA's answer in at most D + 1 − C values.
+  pub climb-answers : climb (rtaRight s m k R) (s .deadline k) (s .deadline k + 1 - s .cost k) (s .cost k) ≡ rtaAnswer s m k R
+  unfolding rtaAnswer
+  climb-answers =
+      climb-reaches (rtaRight s m k R) (rtaRight-rises s m k R) (s .cost k) (s .deadline k) (rtaRight-from-cost s m k R (s .cost k))
+
+  -- If some X from the cost to the deadline is not raised, RTA's answer exists and is at most X.
+  pub rta-below : (x : ℕ) → s .cost k ≤ x → x ≤ s .deadline k → rtaRight s m k R x ≤ x → Better (rtaAnswer s m k R) (some x)
+  unfolding rtaAnswer
+  rta-below x from within stays =
+      fixed-below (rtaRight s m k R) (rtaRight-rises s m k R) (s .cost k) (s .deadline k + 1 - s .cost k) x
+      (rtaRight-from-cost s m k R (s .cost k)) from (omega arith) stays
+
+  -- A found answer lies from the cost to the deadline, by either method.
+  pub answer-within : (method : Method) (x : ℕ) → answer method s m k R ≡ some x → (s .cost k ≤ x) × (x ≤ s .deadline k)
+  answer-within method x found = lies method (rw found at (answer-means method))
+    where
+      lies : (method : Method) → Answers method s m k R (some x) → (s .cost k ≤ x) × (x ≤ s .deadline k)
+      lies BCL h = (rw (h .value) (bclValue-from-cost s m k R), h .by-deadline)
+      lies RTA h = (h .from-cost, h .by-deadline)
