@@ -1,6 +1,6 @@
--- What the sizes allowed say, in numbers: each test of the conjunction, read back.
+-- A row's sizes as facts and as the test that computes: each is the other, comparison by comparison.
 use mathlib.Core.Path.{_≡_}
-use mathlib.Core.Bool.{Bool, true, _&&_}
+use mathlib.Core.Bool.{true, _&&_}
 use Prim.Native.Nat.{ℕ, _≤_, _<_}
 use native.Mathlib.Nat.{le-trans}
 use borrow.Author.Tests.{leb-true, le-leb}
@@ -8,45 +8,75 @@ use lib.Dec.{leb}
 use Rattle.laws.proofs.Choice.{and-left, and-right, and-both}
 use Rattle.model.specs.Sheet.{Sheet, rowAllowed, rowAllowedAt, rowsAllowed, processorsAllowed, horizonAllowed, Allowed}
 
--- A row's sizes as numbers: 1 ≤ C ≤ D ≤ T ≤ 1,000,000.
-pub record RowSizes (c d t : ℕ) : Type 0 where
-  pub some-cost : 1 ≤ c
-  pub cost-by-deadline : c ≤ d
-  pub deadline-by-period : d ≤ t
-  pub period-limit : t ≤ 1_000_000
+-- A row's sizes, as facts.
+pub record SizedRow (c d t : ℕ) : Type 0 where
+  pub positive : 1 ≤ c
+  pub by-deadline : c ≤ d
+  pub within-period : d ≤ t
+  pub small : t ≤ 1_000_000
 
--- The test of a row's sizes passes exactly where they hold.
-pub row-sizes : (c d t : ℕ) → rowAllowed c d t ≡ true → RowSizes c d t
+-- A row that passes has its sizes.
+pub allowed-sized : (c d t : ℕ) → rowAllowed c d t ≡ true → SizedRow c d t
 unfolding rowAllowed
-row-sizes c d t passed =
-    let by-deadline = and-right (leb 1 c) (leb c d && (leb d t && leb t 1_000_000)) passed in
-    let by-period = and-right (leb c d) (leb d t && leb t 1_000_000) by-deadline in
+allowed-sized c d t passes =
+    let from-deadline : (leb c d && (leb d t && leb t 1_000_000)) ≡ true = and-right (leb 1 c) _ passes in
+    let from-period : (leb d t && leb t 1_000_000) ≡ true = and-right (leb c d) _ from-deadline in
     record {
-      some-cost = leb-true 1 c (and-left (leb 1 c) (leb c d && (leb d t && leb t 1_000_000)) passed);
-      cost-by-deadline = leb-true c d (and-left (leb c d) (leb d t && leb t 1_000_000) by-deadline);
-      deadline-by-period = leb-true d t (and-left (leb d t) (leb t 1_000_000) by-period);
-      period-limit = leb-true t 1_000_000 (and-right (leb d t) (leb t 1_000_000) by-period);
+      positive = leb-true 1 c (and-left (leb 1 c) _ passes);
+      by-deadline = leb-true c d (and-left (leb c d) _ from-deadline);
+      within-period = leb-true d t (and-left (leb d t) _ from-period);
+      small = leb-true t 1_000_000 (and-right (leb d t) _ from-period);
     }
 
-pub sizes-allowed : (c d t : ℕ) → RowSizes c d t → rowAllowed c d t ≡ true
+-- A row with its sizes passes.
+pub sized-allowed : (c d t : ℕ) → SizedRow c d t → rowAllowed c d t ≡ true
 unfolding rowAllowed
-sizes-allowed c d t sizes =
-    and-both (leb 1 c) (leb c d && (leb d t && leb t 1_000_000)) (le-leb 1 c (sizes .some-cost))
-    (and-both (leb c d) (leb d t && leb t 1_000_000) (le-leb c d (sizes .cost-by-deadline))
-    (and-both (leb d t) (leb t 1_000_000) (le-leb d t (sizes .deadline-by-period)) (le-leb t 1_000_000 (sizes .period-limit))))
+sized-allowed c d t sized =
+    and-both (leb 1 c) _ (le-leb 1 c (sized .positive))
+    (and-both (leb c d) _ (le-leb c d (sized .by-deadline))
+    (and-both (leb d t) _ (le-leb d t (sized .within-period)) (le-leb t 1_000_000 (sized .small))))
 
--- A count from 1 to a limit, tested, is one.
-pub within-limit : (x limit : ℕ) → (leb 1 x && leb x limit) ≡ true → (1 ≤ x) × (x ≤ limit)
-within-limit x limit passed =
-    (leb-true 1 x (and-left (leb 1 x) (leb x limit) passed), leb-true x limit (and-right (leb 1 x) (leb x limit) passed))
-
--- The sizes of the row at a place of an allowed sheet.
-pub row-sizes-at : (s : Sheet) → Allowed s → (k : ℕ) → k < s .rows → RowSizes (s .cost k) (s .deadline k) (s .period k)
+-- Each row of an allowed sheet has its sizes.
+pub row-sized : (s : Sheet) → Allowed s → (k : ℕ) → k < s .rows → SizedRow (s .cost k) (s .deadline k) (s .period k)
 unfolding rowAllowedAt
-row-sizes-at s allowed k h = row-sizes (s .cost k) (s .deadline k) (s .period k) (allowed .each k h)
+row-sized s allowed k here = allowed-sized (s .cost k) (s .deadline k) (s .period k) (allowed .each k here)
+
+-- A count tested to lie from 1 to a limit does, and one that does passes.
+within-limit : (limit x : ℕ) → (leb 1 x && leb x limit) ≡ true → (1 ≤ x) × (x ≤ limit)
+within-limit limit x passes = (leb-true 1 x (and-left (leb 1 x) _ passes), leb-true x limit (and-right (leb 1 x) _ passes))
+
+limit-within : (limit x : ℕ) → 1 ≤ x → x ≤ limit → (leb 1 x && leb x limit) ≡ true
+limit-within limit x low high = and-both (leb 1 x) _ (le-leb 1 x low) (le-leb x limit high)
+
+-- 1 to 64 rows.
+pub allowed-count : (n : ℕ) → rowsAllowed n ≡ true → (1 ≤ n) × (n ≤ 64)
+unfolding rowsAllowed
+allowed-count = within-limit 64
+
+pub count-allowed : (n : ℕ) → 1 ≤ n → n ≤ 64 → rowsAllowed n ≡ true
+unfolding rowsAllowed
+count-allowed = limit-within 64
+
+-- 1 to 64 processors.
+pub allowed-processors : (m : ℕ) → processorsAllowed m ≡ true → (1 ≤ m) × (m ≤ 64)
+unfolding processorsAllowed
+allowed-processors = within-limit 64
+
+pub processors-allowed : (m : ℕ) → 1 ≤ m → m ≤ 64 → processorsAllowed m ≡ true
+unfolding processorsAllowed
+processors-allowed = limit-within 64
+
+-- A horizon of 1 to 16,777,216.
+pub allowed-horizon : (h : ℕ) → horizonAllowed h ≡ true → (1 ≤ h) × (h ≤ 16_777_216)
+unfolding horizonAllowed
+allowed-horizon = within-limit 16_777_216
+
+pub horizon-allowed : (h : ℕ) → 1 ≤ h → h ≤ 16_777_216 → horizonAllowed h ≡ true
+unfolding horizonAllowed
+horizon-allowed = limit-within 16_777_216
 
 -- Every period of an allowed sheet is at least 1.
 pub periods-positive : (s : Sheet) → Allowed s → (k : ℕ) → k < s .rows → 1 ≤ s .period k
-periods-positive s allowed k h =
-    let sizes = row-sizes-at s allowed k h in
-    le-trans (sizes .some-cost) (le-trans (sizes .cost-by-deadline) (sizes .deadline-by-period))
+periods-positive s allowed k here =
+    let sized = row-sized s allowed k here in
+    le-trans (sized .positive) (le-trans (sized .by-deadline) (sized .within-period))

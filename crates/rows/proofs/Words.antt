@@ -1,0 +1,45 @@
+-- What stands in lent words, by place: definitions put side by side.
+use mathlib.Core.Path.{_≡_, refl}
+use mathlib.Core.Bool.{not}
+use mathlib.Core.List.{List}
+use mathlib.Core.Option.{Option, none, some}
+use Prim.Native.Nat.{ℕ, _+_, _*_}
+use native.Mathlib.Omega.{arith}
+use lib.ListN.{getD}
+use Rattle.model.specs.Sheet.{triples, rowAllowedAt}
+use Rattle.rows.specs.declared.Found.the-variants.{At, Nowhere}
+use Rattle.rows.specs.Words.{rowCount, sheetOf, outside, foundOf}
+
+-- The sheet that words say has as many rows as the words hold.
+pub sheet-rows : (words : List ℕ) → (sheetOf words) .rows ≡ rowCount words
+unfolding sheetOf triples
+sheet-rows words = refl
+
+-- The cost, the deadline and the period of row k are words 3k, 3k + 1 and 3k + 2.
+pub cost-word : (words : List ℕ) (k : ℕ) → (sheetOf words) .cost k ≡ getD words (3 * k) 0
+unfolding sheetOf triples
+cost-word words k = refl
+
+pub deadline-word : (words : List ℕ) (k : ℕ) → (sheetOf words) .deadline k ≡ getD words (3 * k + 1) 0
+unfolding sheetOf triples
+deadline-word words k = refl
+
+pub period-word : (words : List ℕ) (k : ℕ) → (sheetOf words) .period k ≡ getD words (3 * k + 2) 0
+unfolding sheetOf triples
+period-word words k = refl
+
+-- A place as the code says it, the other way round: found is some place, nowhere is none.
+pub found-some : (o : Option ℕ) (k : ℕ) → foundOf o ≡ At k → o ≡ some k
+unfolding foundOf
+found-some none k same = let never : _≡_ {A = ℕ} 0 1 = cc in absurd (omega arith)
+found-some (some j) k same = cc
+
+pub found-none : (o : Option ℕ) → foundOf o ≡ Nowhere → o ≡ none
+unfolding foundOf
+found-none none same = refl
+found-none (some j) same = let never : _≡_ {A = ℕ} 0 1 = cc in absurd (omega arith)
+
+-- A row's sizes do not depend on how many rows are counted.
+pub counted-anyhow : (n : ℕ) (words : List ℕ) (k : ℕ) → outside (triples n words) k ≡ not (rowAllowedAt (sheetOf words) k)
+unfolding outside sheetOf triples rowAllowedAt
+counted-anyhow n words k = refl

@@ -1,0 +1,31 @@
+-- Rows in lent words: a row is three words C, D, T, and rows follow each other.
+use mathlib.Core.Bool.{Bool, not}
+use mathlib.Core.List.{List}
+use mathlib.Core.Option.{Option, none, some}
+use Prim.Native.Nat.{ℕ, _/_}
+use lib.ListN.{length}
+use Rattle.laws.specs.Search.{least}
+use Rattle.model.specs.Sheet.{Sheet, triples, rowAllowedAt}
+use Rattle.rows.specs.declared.Found.{Found}
+use Rattle.rows.specs.declared.Found.the-variants.{At, Nowhere}
+
+-- How many whole rows the words hold.
+unfoldable pub rowCount : List ℕ → ℕ
+rowCount words = length words / 3
+
+-- The sheet that the words say.
+unfoldable pub sheetOf : List ℕ → Sheet
+sheetOf words = triples (rowCount words) words
+
+-- A row outside the sizes allowed.
+unfoldable pub outside : Sheet → ℕ → Bool
+outside s k = not (rowAllowedAt s k)
+
+-- The first row outside the sizes allowed.
+unfoldable pub firstOutside : Sheet → Option ℕ
+firstOutside s = least (outside s) 0 (s .rows)
+
+-- A place that may be missing, as the code says it.
+unfoldable pub foundOf : Option ℕ → Found
+foundOf none = Nowhere
+foundOf (some k) = At k

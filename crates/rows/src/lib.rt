@@ -1,0 +1,115 @@
+// Rows in lent words: cost, deadline and period by place, and the checks that several entries share. Every function here is total.
+mod inner;
+
+use inner::row_allowed_at;
+use inner::shape_refusal;
+use inner::word_at;
+ghost use mathlib.Core.Path.{_≡_};
+ghost use lib.ListN.{length};
+ghost use Rattle.model.specs.Sheet.{triples};
+ghost use Rattle.rows.specs.Words.{rowCount, sheetOf, foundOf, firstOutside};
+ghost use Rattle.rows.specs.Checks.{processorsRefusal, roomRefusal, firstOf, wordsRefusal};
+
+// The place of a row, or that there is none.
+pub enum Found {
+    At(u32),
+    Nowhere,
+}
+
+// A refusal's number and place; number 0 is no refusal.
+pub struct Refusal {
+    pub number: u32,
+    pub place: u32,
+}
+
+// The cost of the row at a place; past the end 0.
+pub fn cost(words: &[u32], row: u32) -> u32
+    ensures { λ r. ⌜ r ≡ (sheetOf (now (words .entry))) .cost row ⌝ }
+{
+    word_at(words, 3 * (row as usize))
+}
+
+// The relative deadline of the row at a place; past the end 0.
+pub fn deadline(words: &[u32], row: u32) -> u32
+    ensures { λ r. ⌜ r ≡ (sheetOf (now (words .entry))) .deadline row ⌝ }
+{
+    word_at(words, 3 * (row as usize) + 1)
+}
+
+// The period of the row at a place; past the end 0.
+pub fn period(words: &[u32], row: u32) -> u32
+    ensures { λ r. ⌜ r ≡ (sheetOf (now (words .entry))) .period row ⌝ }
+{
+    word_at(words, 3 * (row as usize) + 2)
+}
+
+// How many whole rows the words hold.
+pub fn row_count(words: &[u32]) -> usize
+    ensures { λ r. ⌜ r ≡ rowCount (now (words .entry)) ⌝ }
+{
+    words.len() / 3
+}
+
+// The first of so many rows that is outside the sizes allowed.
+pub fn first_outside(words: &[u32], count: u32) -> Found
+    ensures { λ r. ⌜ r ≡ foundOf (firstOutside (triples count (now (words .entry)))) ⌝ }
+{
+    let mut row = 0;
+    while row < count {
+        if !row_allowed_at(words, row) {
+            return Found::At(row);
+        }
+        row += 1;
+    }
+    Found::Nowhere
+}
+
+// 4 where the processors are 0 or above 64, else 0.
+pub fn processors_refusal(processors: u32) -> u32
+    ensures { λ r. ⌜ r ≡ processorsRefusal processors ⌝ }
+{
+    if processors < 1 {
+        return 4;
+    }
+    if 64 < processors {
+        return 4;
+    }
+    0
+}
+
+// 7 where the output space is shorter than the answer, else 0.
+pub fn room_refusal(room: usize, need: usize) -> u32
+    ensures { λ r. ⌜ r ≡ roomRefusal room need ⌝ }
+{
+    if room < need { 7 } else { 0 }
+}
+
+// The first of two checks that holds: the second only where the first is 0.
+pub fn first_of(first: u32, second: u32) -> u32
+    ensures { λ r. ⌜ r ≡ firstOf first second ⌝ }
+{
+    if first == 0 { second } else { first }
+}
+
+// The refusal of an entry on words, in number order: 2, 3, then the first of the entry's own checks 4 to 7 that holds, then 8.
+pub fn words_refusal(words: &[u32], between: u32) -> Refusal
+    ensures { λ r. ⌜ r ≡ wordsRefusal (now (words .entry)) between ⌝ }
+{
+    let number = first_of(shape_refusal(words), between);
+    if number != 0 {
+        return Refusal {
+            number: number,
+            place: 0,
+        };
+    }
+    match first_outside(words, row_count(words) as u32) {
+        Found::At(row) => Refusal {
+            number: 8,
+            place: row,
+        },
+        Found::Nowhere => Refusal {
+            number: 0,
+            place: 0,
+        },
+    }
+}
