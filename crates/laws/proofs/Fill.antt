@@ -1,7 +1,7 @@
 -- Lists filled place by place and block by block hold what was put there. By induction on how many were put.
 use mathlib.Core.Path.{_≡_, refl, sym, _∙_, ap, ap₂}
 use mathlib.Core.Bool.{Bool, true, false, _&&_}
-use mathlib.Core.List.{List, [], _∷_, _++_, append-assoc}
+use mathlib.Core.List.{List, [], _∷_, _++_, append-assoc, append-nil}
 use mathlib.Core.Logic.{_⊎_, inl, inr, ⊎-elim}
 use Prim.Native.Nat.{ℕ, zero, suc, _+_, _*_, _-_, _≤_, _<_}
 use native.Mathlib.Nat.{eq-or-lt-of-le, le-of-suc-le-suc, le-step, le-antisymm, lt-suc-self, suc-mul, zero-mul, mul-le-mul-right, le-trans, le-refl}
@@ -10,7 +10,7 @@ use native.Mathlib.Omega.{arith}
 use borrow.Author.Tests.{eqb-true, eq-eqb}
 use lib.Dec.{eqb}
 use lib.ListN.{length, getD, take, drop, set, length-append, length-drop, List·getD-append}
-use lib.Seq.{ext-getD, drop-cons, set-at, take-all, take-at, drop-at, take-append-le, drop-append-le, drop-drop, getD-at, getD-take, getD-drop, append-snoc}
+use lib.Seq.{ext-getD, drop-length, drop-cons, set-at, take-all, take-at, drop-at, take-append-le, drop-append-le, drop-drop, getD-at, getD-take, getD-drop, append-snoc}
 use Rattle.laws.proofs.Choice.{never-both, and-left, and-right}
 use Rattle.laws.specs.Sum.{total}
 use Rattle.laws.proofs.Order.{below-or-from}
@@ -45,6 +45,20 @@ unfolding listed
 listed-fill f i l h =
     rw (add-one, drop-cons l i 0 h)
     (set-at (listed f i) (getD l i 0) (drop (suc i) l) (f i) i (listed-length f i) ∙ sym (append-snoc (listed f i) (f i) (drop (suc i) l)))
+
+-- The same as a loop meets it: a list that holds those listed and then what stood there, and the value stored.
+pub listed-more : (f : ℕ → ℕ) (i : ℕ) (before now : List ℕ) (value : ℕ) → i < length before → now ≡ listed f i ++ drop i before → value ≡ f i
+    → set now i value ≡ listed f (i + 1) ++ drop (i + 1) before
+listed-more f i before now value inside filled stored = rw (filled, stored) (listed-fill f i before inside)
+
+-- At first nothing is listed, and at last nothing else is left.
+pub listed-none : (f : ℕ → ℕ) (before : List ℕ) → before ≡ listed f 0 ++ drop 0 before
+unfolding listed
+listed-none f before = refl
+
+pub listed-all : (f : ℕ → ℕ) (n : ℕ) (before now : List ℕ) → length before ≡ n → now ≡ listed f n ++ drop n before → now ≡ listed f n
+listed-all f n before now size filled =
+    filled ∙ rw (← size, drop-length before) (append-nil (listed f (length before)))
 
 -- A list is the listing of what stands at its places.
 pub listed-back : (l : List ℕ) (n : ℕ) → length l ≡ n → listed (λ i. getD l i 0) n ≡ l

@@ -2,8 +2,8 @@
 use mathlib.Core.Path.{_≡_, refl, ap₂}
 use mathlib.Core.Bool.{Bool, true, false}
 use mathlib.Core.Logic.{_⊎_, inl, inr, ⊎-elim}
-use Prim.Native.Nat.{ℕ, zero, suc, _+_, _≤_, _<_}
-use native.Mathlib.Nat.{add-le-add, eq-or-lt-of-le, le-of-suc-le-suc, le-step, le-refl, lt-suc-self, add-lt-add-of-lt-of-le, add-lt-add-of-le-of-lt, not-le-of-lt, le-antisymm}
+use Prim.Native.Nat.{ℕ, zero, suc, _+_, _*_, _≤_, _<_}
+use native.Mathlib.Nat.{add-le-add, eq-or-lt-of-le, le-of-suc-le-suc, le-step, le-refl, lt-suc-self, add-lt-add-of-lt-of-le, add-lt-add-of-le-of-lt, not-le-of-lt, le-antisymm, suc-mul}
 use native.Mathlib.Numerals.{add-one}
 use native.Mathlib.Omega.{arith}
 use borrow.Author.Tests.{eq-eqb, ne-eqb}
@@ -60,6 +60,13 @@ term-within f zero k here = absurd (omega arith)
 term-within f (suc n) k here =
     ⊎-elim (λ (last : k ≡ n). rw last (omega arith)) (λ (before : k < n). omega (arith, term-within f n k before))
     (eq-or-lt-of-le (le-of-suc-le-suc here))
+
+-- A sum of terms within a limit is within that many times the limit.
+pub total-within : (f : ℕ → ℕ) (limit n : ℕ) → ((i : ℕ) → i < n → f i ≤ limit) → total f n ≤ n * limit
+unfolding total
+total-within f limit zero each = omega arith
+total-within f limit (suc n) each =
+    omega (arith, total-within f limit n (λ i h. each i (le-step h)), each n (lt-suc-self n), suc-mul n limit)
 
 -- At the place left out there is 0.
 pub unless-here : (k : ℕ) (f : ℕ → ℕ) → unless k f k ≡ 0

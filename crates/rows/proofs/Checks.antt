@@ -16,8 +16,8 @@ use Rattle.model.specs.Sheet.{Sheet, rowAllowedAt, processorsAllowed}
 use Rattle.rows.specs.declared.Refusal.{Refusal}
 use Rattle.rows.specs.Words.{rowCount, sheetOf, outside, firstOutside}
 use Rattle.rows.specs.Checks.{refused, notRefused, notRows, tooMany, processorsRefusal, roomRefusal, firstOf, rowsRefusal, wordsRefusal}
-use Rattle.rows.specs.Inner.{shapeRefusal, Accepted}
-use Rattle.model.proofs.Sheet.{count-allowed}
+use Rattle.rows.specs.Inner.{shapeRefusal, SoundRows, Accepted}
+use Rattle.model.proofs.Sheet.{SizedRow, count-allowed, row-sized}
 use Rattle.rows.proofs.Words.{sheet-rows}
 
 -- A list that is not empty and whole rows is three words a row, and at least one row.
@@ -170,3 +170,8 @@ shape-few words zero = split (notRows words) (tooMany words) refl zero
     split true many told zero = absurd (omega arith)
     split false true told zero = absurd (omega arith)
     split false false told zero = ltb-false 64 (rowCount words) told
+
+-- Each row of sound words has its sizes.
+pub sound-row : (words : List ℕ) → SoundRows words → (k : ℕ) → k < rowCount words
+    → SizedRow ((sheetOf words) .cost k) ((sheetOf words) .deadline k) ((sheetOf words) .period k)
+sound-row words sound k here = row-sized (sheetOf words) (sound .allowed) k (rw sheet-rows here)

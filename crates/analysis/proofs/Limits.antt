@@ -1,0 +1,35 @@
+-- Why 32 bits are enough: whole periods of a row cost no more than the time they fill, and every time here is at most two millions.
+use mathlib.Core.Path.{_≡_, refl}
+use mathlib.Core.List.{List}
+use Prim.Native.Nat.{ℕ, zero, suc, _+_, _*_, _-_, _/_, _≤_, _<_, min}
+use native.Mathlib.Nat.{le-trans, mul-le-mul-left, div-mul-le-self, zero-mul, suc-mul}
+use native.Mathlib.Omega.{arith}
+use lib.ListN.{getD}
+use Rattle.model.specs.Sheet.{Sheet}
+use Rattle.model.specs.Interference.{carried, work}
+use Rattle.rows.specs.Words.{rowCount, sheetOf}
+use Rattle.rows.proofs.Words.{sheet-rows}
+use Rattle.analysis.specs.Inner.{Ready, termOf}
+
+-- The costs of the whole periods in a time are no more than the time.
+pub periods-within : (time period cost : ℕ) → cost ≤ period → time / period * cost ≤ time
+periods-within time period cost h = le-trans (mul-le-mul-left (time / period) h) (div-mul-le-self time period)
+
+-- Each bound that is ready lies from its row's cost to its deadline.
+pub bound-in-range : (words R : List ℕ) → Ready words R → (i : ℕ) → i < rowCount words
+    → ((sheetOf words) .cost i ≤ getD R i 0) × (getD R i 0 ≤ (sheetOf words) .deadline i)
+bound-in-range words R ready i h = ready .in-range i (rw sheet-rows h)
+
+-- A row that has its cost and a bound no smaller does some work in any window.
+pub work-positive : (c t r l : ℕ) → 1 ≤ c → c ≤ r → 1 ≤ l → 1 ≤ work c t r l
+unfolding work carried
+work-positive c t r l positive bound window = some-work ((l + r - c) / t) refl
+  where
+    some-work : (n : ℕ) → (l + r - c) / t ≡ n → 1 ≤ (l + r - c) / t * c + min c (l + r - c - (l + r - c) / t * t)
+    some-work zero periods = rw periods (omega (arith, zero-mul c, zero-mul t))
+    some-work (suc n) periods = rw periods (omega (arith, suc-mul n c))
+
+-- No term is above the cap.
+pub term-within-cap : (s : Sheet) (R taken : List ℕ) (x cap i : ℕ) → termOf s R taken x cap i ≤ cap
+unfolding termOf
+term-within-cap s R taken x cap i = omega arith

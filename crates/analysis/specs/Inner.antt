@@ -1,0 +1,37 @@
+-- What only inner functions and proofs cite: no user need believe it.
+use mathlib.Core.Path.{_≡_}
+use mathlib.Core.List.{List}
+use Prim.Native.Nat.{ℕ, _≤_, _<_, min}
+use lib.ListN.{length, getD}
+use Rattle.laws.specs.Sum.{total, unless}
+use Rattle.laws.specs.Fill.{listed}
+use Rattle.model.specs.Sheet.{Sheet}
+use Rattle.model.specs.Interference.{workOf, bclTerm}
+use Rattle.rows.specs.Words.{rowCount, sheetOf}
+use Rattle.rows.specs.Inner.{SoundRows}
+
+-- Each bound lies from its row's cost to its deadline.
+abbrev pub InRange : Sheet → List ℕ → Type 0
+InRange s R = (i : ℕ) → i < s .rows → (s .cost i ≤ getD R i 0) × (getD R i 0 ≤ s .deadline i)
+
+-- Words that were checked, with one bound in range for each row.
+pub record Ready (words : List ℕ) (R : List ℕ) : Type 0 where
+  pub rows : SoundRows words
+  pub one-each : length R ≡ rowCount words
+  pub in-range : InRange (sheetOf words) R
+
+-- The most that each other row takes of the time before row k's deadline, and 0 for row k.
+unfoldable pub shares : Sheet → ℕ → List ℕ → List ℕ
+shares s k R = listed (unless k (bclTerm s k R)) (s .rows)
+
+-- What one other row adds to the right side at X: its work, its share as worked out before, or the cap, whichever is least.
+unfoldable pub termOf : Sheet → List ℕ → List ℕ → ℕ → ℕ → ℕ → ℕ
+termOf s R taken x cap i = min (workOf s R x i) (min (getD taken i 0) cap)
+
+-- A row under question, with what the others take worked out.
+pub record Prepared (words R taken : List ℕ) (row count processors : ℕ) : Type 0 where
+  pub ready : Ready words R
+  pub inside : row < rowCount words
+  pub counted : count ≡ rowCount words
+  pub shared : taken ≡ shares (sheetOf words) row R
+  pub some-processor : 1 ≤ processors

@@ -1,0 +1,71 @@
+// What other rows take of a row's time.
+use crate::numbers::less;
+use crate::numbers::lesser;
+use rows::cost;
+use rows::deadline;
+use rows::period;
+ghost use mathlib.Core.Path.{_≡_};
+ghost use Prim.Native.Nat.{_+_, _-_, _≤_, _<_, min};
+ghost use lib.ListN.{length, getD};
+ghost use Rattle.laws.specs.Sum.{total, unless};
+ghost use Rattle.model.specs.Interference.{share, work, workOf, bclTerm, rtaRight};
+ghost use Rattle.rows.specs.Words.{rowCount, sheetOf};
+ghost use Rattle.analysis.specs.Inner.{Ready, shares};
+
+// The demand share of a row in a deadline window.
+pub(crate) fn share_in_window(cost: u32, deadline: u32, period: u32, bound: u32, window: u32) -> u32
+    requires { ⌜ (cost ≤ period) × (1 ≤ period) × (period ≤ 1_000_000) × (window ≤ 1_000_000) ⌝ }
+    ensures { λ r. ⌜ r ≡ share cost deadline period bound window ⌝ }
+{
+    window / period * cost + lesser(cost, less(window % period, less(deadline, bound)))
+}
+
+// The work of a row in a window.
+pub(crate) fn work_in_window(cost: u32, period: u32, bound: u32, window: u32) -> u32
+    requires { ⌜ (cost ≤ period) × (1 ≤ period) × (period ≤ 1_000_000) × (bound ≤ 1_000_000) × (window ≤ 1_000_000) ⌝ }
+    ensures { λ r. ⌜ r ≡ work cost period bound window ⌝ }
+{
+    let time = less(window + bound, cost);
+    time / period * cost + lesser(cost, time % period)
+}
+
+// The most that another row takes of the time before a row's deadline: its share, and no more than D - C + 1.
+pub(crate) fn capped_share(words: &[u32], bounds: &[u32], row: u32, other: u32) -> u32
+    requires { ⌜ Ready (now words) (now bounds) × (row < rowCount (now words)) × (other < rowCount (now words)) ⌝ }
+    ensures { λ r. ⌜ r ≡ bclTerm (sheetOf (now (words .entry))) row (now (bounds .entry)) other ⌝ }
+{
+    let bound = bounds[other as usize];
+    let window = deadline(words, row);
+    let taken = share_in_window(
+        cost(words, other),
+        deadline(words, other),
+        period(words, other),
+        bound,
+        window,
+    );
+    lesser(taken, window - cost(words, row) + 1)
+}
+
+// The same for every other row, and 0 for the row itself, which is left out by its place.
+pub(crate) fn other_share(words: &[u32], bounds: &[u32], row: u32, other: u32) -> u32
+    requires { ⌜ Ready (now words) (now bounds) × (row < rowCount (now words)) × (other < rowCount (now words)) ⌝ }
+    ensures { λ r. ⌜ r ≡ unless row (bclTerm (sheetOf (now (words .entry))) row (now (bounds .entry))) other ⌝ }
+{
+    if other == row {
+        0
+    } else {
+        capped_share(words, bounds, row, other)
+    }
+}
+
+// Fills in what each other row takes at most: worked out once a turn, whatever X is tried.
+pub(crate) fn fill_shares(words: &[u32], bounds: &[u32], row: u32, count: u32, out: &mut [u32])
+    requires { ⌜ Ready (now words) (now bounds) × (row < rowCount (now words)) × (count ≡ rowCount (now words)) × (length (now out) ≡ count) ⌝ }
+    ensures { λ r. ⌜ now (out .exit) ≡ shares (sheetOf (now (words .entry))) row (now (bounds .entry)) ⌝ }
+{
+    let mut other = 0;
+    while other < count {
+        out[other as usize] = other_share(words, bounds, row, other);
+        other += 1;
+    }
+}
