@@ -1,4 +1,41 @@
 // The one-row question and the two engines, on lent words.
+mod checks;
 mod interference;
 mod numbers;
 mod response;
+
+use checks::question_refusal;
+use response::answer_row;
+use rows::Found;
+use rows::row_count;
+ghost use mathlib.Core.Path.{_≡_};
+ghost use Rattle.analysis.specs.Question.{oneRow};
+
+// The answer to the one-row question: a refusal's number and place, or 0, 0 and the row's bound or none.
+pub struct OneRow {
+    pub refusal: u32,
+    pub place: u32,
+    pub answer: Found,
+}
+
+// One row's answer under given bounds: the least response time that solves the equation (method 1), the formula's value (method 0), or none.
+pub fn one_row(words: &[u32], processors: u32, method: u32, bounds: &[u32], row: u32) -> OneRow
+    ensures { λ r. ⌜ r ≡ oneRow (now (words .entry)) processors method (now (bounds .entry)) row ⌝ }
+{
+    let refusal = question_refusal(words, processors, method, bounds, row);
+    let number = refusal.number;
+    if number != 0 {
+        return OneRow {
+            refusal: number,
+            place: refusal.place,
+            answer: Found::Nowhere,
+        };
+    }
+    let count = row_count(words) as u32;
+    let answer = answer_row(words, bounds, row, count, processors, method);
+    OneRow {
+        refusal: 0,
+        place: 0,
+        answer: answer,
+    }
+}

@@ -4,6 +4,7 @@ use mathlib.Core.Bool.{Bool, true, false, _&&_}
 use mathlib.Core.Logic.{_⊎_, inl, inr, ⊎-elim}
 use Prim.Native.Nat.{ℕ, zero, suc, _+_, _*_, _-_, _^_, _/_, _%_, _≤_, _<_}
 use native.Mathlib.Nat.{eq-or-lt-of-le, le-of-suc-le-suc, le-step, le-dest, lt-suc-self, two-pow-succ, pow-succ', div-eq-of-lt, lt-of-lt-of-le, add-mul-div-right, add-mul-mod-self-right, add-comm, mul-assoc}
+use native.Mathlib.Numerals.{add-one}
 use native.Mathlib.Omega.{arith}
 use lib.Arith.{digits-div}
 use lib.Pow.{pow-pos, pow-mono, pow-add}
@@ -82,6 +83,19 @@ pub each-every : (f : ℕ → Bool) (n : ℕ) → ((k : ℕ) → k < n → f k �
 unfolding every
 each-every f zero each = refl
 each-every f (suc n) each = and-both (every f n) (f n) (each-every f n (λ k h. each k (le-step h))) (each n (lt-suc-self n))
+
+-- One place that fails is enough for not every.
+pub every-fails : (f : ℕ → Bool) (n k : ℕ) → k < n → f k ≡ false → every f n ≡ false
+every-fails f n k h failed = decided (every f n) refl
+  where
+    decided : (b : Bool) → every f n ≡ b → b ≡ false
+    decided true all = absurd (never-both (every-each f n all k h) failed)
+    decided false all = refl
+
+-- What passes up to n and at n passes up to n + 1.
+pub every-more : (f : ℕ → Bool) (n : ℕ) → every f n ≡ true → f n ≡ true → every f (n + 1) ≡ true
+unfolding every
+every-more f n all here = rw add-one (and-both (every f n) (f n) all here)
 
 -- All n bits are set exactly if every place passes.
 pub every-full : (f : ℕ → Bool) (n : ℕ) → every f n ≡ true → bits f n ≡ 2 ^ n - 1

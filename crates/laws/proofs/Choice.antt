@@ -46,6 +46,13 @@ pub and-both : (a b : Bool) → a ≡ true → b ≡ true → (a && b) ≡ true
 and-both true b h k = k
 and-both false b h k = h
 
+-- A test that fails decides, and one that holds leaves it to the other.
+pub and-fails : (a b : Bool) → a ≡ false → (a && b) ≡ false
+and-fails a b failed = rw failed
+
+pub and-holds : (a b : Bool) → a ≡ true → (a && b) ≡ b
+and-holds a b held = rw held
+
 -- An answer is as good as itself.
 pub better-refl : (a : Option ℕ) → Better a a
 better-refl none = tt

@@ -175,3 +175,12 @@ shape-few words zero = split (notRows words) (tooMany words) refl zero
 pub sound-row : (words : List ℕ) → SoundRows words → (k : ℕ) → k < rowCount words
     → SizedRow ((sheetOf words) .cost k) ((sheetOf words) .deadline k) ((sheetOf words) .period k)
 sound-row words sound k here = row-sized (sheetOf words) (sound .allowed) k (rw sheet-rows here)
+
+-- Checks made only where the first ones passed: number 0 at the end says that both passed.
+pub both-passed : (first second : Refusal) → (unlessRefused (first .number) first second) .number ≡ 0 → (first .number ≡ 0) × (second .number ≡ 0)
+unfolding unlessRefused
+both-passed first second zero = split (eqb (first .number) 0) refl zero
+  where
+    split : (b : Bool) → eqb (first .number) 0 ≡ b → (pick b second first) .number ≡ 0 → (first .number ≡ 0) × (second .number ≡ 0)
+    split true is-zero zero = (eqb-true (first .number) 0 is-zero, zero)
+    split false not-zero zero = absurd (eqb-false (first .number) 0 not-zero zero)

@@ -17,9 +17,13 @@ slice-aggregate-answer-in c =
 
 answer-in-requires : tie.Need-answer-in-requires
 answer-in-requires c κs =
-    let p = c .before .before .before in
-    (p .pre .0, p .pre .1, p .pre .2, p .pre .3,
-    length-take-le (p .args .count) (replicate 64 0) (omega (arith, p .pre .2, p .pre .0 .rows .at-most)))
+    let p = c .before .before .before in (
+      p .pre .0,
+      p .pre .1,
+      p .pre .2,
+      p .pre .3,
+      length-take-le (p .args .count) (replicate 64 0) (omega (arith, p .pre .2, p .pre .0 .rows .at-most)),
+    )
 
 returns : tie.Need-returns
 returns c = search needs

@@ -41,7 +41,7 @@ unfolding foundOf answer
 returns c =
     let p = c .before .before .before .before .before .before .before in
     let value = value-from-shares _ _ _ _ _ _ (p .pre) (c .before .before .before .cost .result) (c .before .before .sum-of-shares .result)
-        (c .before .before .before .cost .ensures) (c .before .before .sum-of-shares .ensures) in
+    (c .before .before .before .cost .ensures) (c .before .before .sum-of-shares .ensures) in
     ap foundOf
     (sym
     (answer-fixed (sheetOf (now (p .args .words))) (p .args .processors) (p .args .row) (now (p .args .bounds)) BCL (some _)
@@ -52,7 +52,7 @@ unfolding foundOf answer
 returns-2 c =
     let p = c .before .before .before .before .before .before .before in
     let value = value-from-shares _ _ _ _ _ _ (p .pre) (c .before .before .before .cost .result) (c .before .before .sum-of-shares .result)
-        (c .before .before .before .cost .ensures) (c .before .before .sum-of-shares .ensures) in
+    (c .before .before .before .cost .ensures) (c .before .before .sum-of-shares .ensures) in
     ap foundOf
     (sym
     (answer-fixed (sheetOf (now (p .args .words))) (p .args .processors) (p .args .row) (now (p .args .bounds)) BCL none

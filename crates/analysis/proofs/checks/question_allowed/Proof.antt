@@ -1,0 +1,71 @@
+-- `question_allowed` makes the definition's tests in their order.
+use borrow.Author.Needs.{needs}
+use mathlib.Core.Path.{_≡_, sym, _∙_, ap}
+use Prim.Native.Nat.{ℕ, _≤_, _<_}
+use lib.Dec.{ltb, eqb}
+use lib.ListN.{length}
+use denote.Ref.{now}
+use borrow.Author.Tests.{lt-ltb, le-ltb, eq-eqb, ne-eqb}
+use Rattle.laws.specs.Bits.{every}
+use Rattle.laws.proofs.Choice.{and-fails, and-holds}
+use Rattle.rows.specs.Words.{sheetOf}
+use Rattle.rows.proofs.Words.{sheet-rows}
+use Rattle.analysis.specs.Question.{questionAllowed}
+use native.Mathlib.Omega.{arith}
+use Rattle.analysis.proofs.checks.question_allowed.Statement.{statement}
+use Rattle.analysis.proofs.checks.question_allowed.Tie as tie
+
+row-count-requires : tie.Need-row-count-requires
+row-count-requires c κs = search needs
+
+cast-count : tie.Need-cast-count
+cast-count c = search needs
+
+returns : tie.Need-returns
+unfolding questionAllowed
+returns c =
+    let p = c .before .before .before .before in
+    let s = sheetOf (now (p .args .words)) in
+    let past : s .rows ≤ p .args .row = omega (arith, sheet-rows (now (p .args .words))) in
+    sym (and-fails _ _ (le-ltb (p .args .row) (s .rows) past))
+
+cast-if2 : tie.Need-cast-if2
+cast-if2 c = search needs
+
+returns-2 : tie.Need-returns-2
+unfolding questionAllowed
+returns-2 c =
+    let p = c .before .before .before .before .before in
+    let s = sheetOf (now (p .args .words)) in
+    let there : p .args .row < s .rows = omega (arith, sheet-rows (now (p .args .words))) in
+    let other : length (now (p .args .bounds)) ≡ s .rows → ⊥ = omega (arith, sheet-rows (now (p .args .words))) in
+    sym (and-holds _ _ (lt-ltb (p .args .row) (s .rows) there) ∙ and-fails _ _ (ne-eqb (length (now (p .args .bounds))) (s .rows) other))
+
+bounds-allowed-requires : tie.Need-bounds-allowed-requires
+bounds-allowed-requires c κs = search needs
+
+returns-3 : tie.Need-returns-3
+unfolding questionAllowed
+returns-3 c =
+    let p = c .before .before .before .before .before .before in
+    let s = sheetOf (now (p .args .words)) in
+    let there : p .args .row < s .rows = omega (arith, sheet-rows (now (p .args .words))) in
+    let one-each : length (now (p .args .bounds)) ≡ s .rows = omega (arith, sheet-rows (now (p .args .words))) in
+    let counted : c .before .before .before .row-count .result ≡ s .rows = omega (arith, sheet-rows (now (p .args .words))) in
+    c .bounds-allowed .ensures
+    ∙ ap (every _) counted
+    ∙ sym
+    (and-holds _ _ (lt-ltb (p .args .row) (s .rows) there)
+    ∙ and-holds _ _ (eq-eqb (length (now (p .args .bounds))) (s .rows) one-each))
+
+pub question-allowed-spec : {M : Type 1} → statement M
+question-allowed-spec =
+    tie.close
+    (tie.spec
+    row-count-requires
+    cast-count
+    returns
+    cast-if2
+    returns-2
+    bounds-allowed-requires
+    returns-3)

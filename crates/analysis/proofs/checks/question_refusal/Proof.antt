@@ -1,0 +1,62 @@
+-- `question_refusal` makes the first checks together, and check 9 only where they passed.
+use borrow.Author.Needs.{needs}
+use mathlib.Core.Path.{_≡_, sym, _∙_, ap}
+use denote.Ref.{now}
+use Rattle.rows.specs.declared.Refusal.{Refusal}
+use Rattle.rows.specs.Checks.{processorsRefusal, firstOf, wordsRefusal}
+use Rattle.rows.proofs.Checks.{accepted}
+use Rattle.analysis.specs.Question.{methodRefusal}
+use Rattle.analysis.proofs.Question.{first-checks, refused-first, passed-first}
+use Rattle.analysis.proofs.checks.question_refusal.Statement.{statement}
+use Rattle.analysis.proofs.checks.question_refusal.Tie as tie
+
+processors-refusal-requires : tie.Need-processors-refusal-requires
+processors-refusal-requires c κs = search needs
+
+method-refusal-requires : tie.Need-method-refusal-requires
+method-refusal-requires c κs = search needs
+
+first-of-requires : tie.Need-first-of-requires
+first-of-requires c κs = search needs
+
+words-refusal-requires : tie.Need-words-refusal-requires
+words-refusal-requires c κs = search needs
+
+first : (c : tie.After-words-refusal) → let p = c .before .before .before .before .before .before in
+    c .words-refusal .result
+    ≡ wordsRefusal (now (p .args .words)) (firstOf (processorsRefusal (p .args .processors)) (methodRefusal (p .args .method)))
+first c =
+    let q = c .before .before in
+    first-checks _ _ _ _ _ _ _ (q .before .processors-refusal .ensures) (q .method-refusal .ensures) (c .before .first-of .ensures)
+    (c .words-refusal .ensures)
+
+returns : tie.Need-returns
+returns c = refused-first _ _ _ _ _ _ (first (c .before)) (c .if1 .taken)
+
+question-allowed-requires : tie.Need-question-allowed-requires
+question-allowed-requires c κs =
+    let p = c .before .before .before .before .before .before .before in
+    accepted (now (p .args .words)) _ (sym (ap (λ (r : Refusal). r .number) (first (c .before))) ∙ c .if1 .left) .rows .at-most
+
+returns-2 : tie.Need-returns-2
+returns-2 c =
+    let q = c .before .before in
+    passed-first _ _ _ _ _ _ (first (q .before)) (q .if1 .left) _ (sym (c .before .question-allowed .ensures) ∙ c .if2 .taken)
+
+returns-3 : tie.Need-returns-3
+returns-3 c =
+    let q = c .before .before in
+    passed-first _ _ _ _ _ _ (first (q .before)) (q .if1 .left) _ (sym (c .before .question-allowed .ensures) ∙ c .if2 .left)
+
+pub question-refusal-spec : {M : Type 1} → statement M
+question-refusal-spec =
+    tie.close
+    (tie.spec
+    processors-refusal-requires
+    method-refusal-requires
+    first-of-requires
+    words-refusal-requires
+    returns
+    question-allowed-requires
+    returns-2
+    returns-3)

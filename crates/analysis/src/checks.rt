@@ -1,0 +1,92 @@
+// The checks of the one-row question.
+use rows::Refusal;
+use rows::cost;
+use rows::deadline;
+use rows::first_of;
+use rows::processors_refusal;
+use rows::row_count;
+use rows::words_refusal;
+ghost use mathlib.Core.Path.{_≡_};
+ghost use Prim.Native.Nat.{_≤_, _<_};
+ghost use lib.ListN.{length};
+ghost use Rattle.laws.specs.Bits.{every};
+ghost use Rattle.rows.specs.Words.{rowCount, sheetOf};
+ghost use Rattle.analysis.specs.Question.{methodRefusal, boundAllowed, questionAllowed, oneRowRefusal};
+
+// 5 where the method is above 1, else 0.
+pub(crate) fn method_refusal(method: u32) -> u32
+    ensures { λ r. ⌜ r ≡ methodRefusal method ⌝ }
+{
+    if 1 < method { 5 } else { 0 }
+}
+
+// Whether the bound of a row lies from its cost to its deadline.
+pub(crate) fn bound_allowed(words: &[u32], bounds: &[u32], row: u32) -> bool
+    requires { ⌜ row < length (now bounds) ⌝ }
+    ensures { λ r. ⌜ r ≡ boundAllowed (sheetOf (now (words .entry))) (now (bounds .entry)) row ⌝ }
+{
+    let bound = bounds[row as usize];
+    if bound < cost(words, row) {
+        return false;
+    }
+    bound <= deadline(words, row)
+}
+
+// Whether each of the bounds lies from its row's cost to its deadline.
+pub(crate) fn bounds_allowed(words: &[u32], bounds: &[u32], count: u32) -> bool
+    requires { ⌜ length (now bounds) ≡ count ⌝ }
+    ensures { λ r. ⌜ r ≡ every (boundAllowed (sheetOf (now (words .entry))) (now (bounds .entry))) count ⌝ }
+{
+    let mut row = 0;
+    while row < count {
+        if !bound_allowed(words, bounds, row) {
+            return false;
+        }
+        row += 1;
+    }
+    true
+}
+
+// Whether the row number and the bounds fit the sheet.
+pub(crate) fn question_allowed(words: &[u32], bounds: &[u32], row: u32) -> bool
+    requires { ⌜ rowCount (now words) ≤ 64 ⌝ }
+    ensures { λ r. ⌜ r ≡ questionAllowed (sheetOf (now (words .entry))) (now (bounds .entry)) row ⌝ }
+{
+    let count = row_count(words) as u32;
+    if count <= row {
+        return false;
+    }
+    if bounds.len() != count as usize {
+        return false;
+    }
+    bounds_allowed(words, bounds, count)
+}
+
+// The refusal of the one-row question, in number order: 2, 3, 4, 5, 8, 9.
+pub(crate) fn question_refusal(
+    words: &[u32],
+    processors: u32,
+    method: u32,
+    bounds: &[u32],
+    row: u32,
+) -> Refusal
+    ensures { λ r. ⌜ r ≡ oneRowRefusal (now (words .entry)) processors method (now (bounds .entry)) row ⌝ }
+{
+    let between = first_of(processors_refusal(processors), method_refusal(method));
+    let first = words_refusal(words, between);
+    let number = first.number;
+    if number != 0 {
+        return first;
+    }
+    if question_allowed(words, bounds, row) {
+        Refusal {
+            number: 0,
+            place: 0,
+        }
+    } else {
+        Refusal {
+            number: 9,
+            place: 0,
+        }
+    }
+}
