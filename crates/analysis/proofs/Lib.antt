@@ -1,3 +1,4 @@
 pub mod Limits
 pub mod Shares
 pub mod Question
+pub mod Steps

@@ -1,5 +1,6 @@
 -- What only inner functions and proofs cite: no user need believe it.
 use mathlib.Core.Path.{_≡_}
+use mathlib.Core.Bool.{Bool, true, false}
 use mathlib.Core.List.{List}
 use Prim.Native.Nat.{ℕ, _≤_, _<_, min}
 use lib.ListN.{length, getD}
@@ -7,6 +8,9 @@ use Rattle.laws.specs.Sum.{total, unless}
 use Rattle.laws.specs.Fill.{listed}
 use Rattle.model.specs.Sheet.{Sheet}
 use Rattle.model.specs.Interference.{workOf, bclTerm}
+use Rattle.model.specs.Refine.{Ask, marks}
+use Rattle.rows.specs.declared.Found.{Found}
+use Rattle.rows.specs.declared.Found.the-variants.{At, Nowhere}
 use Rattle.rows.specs.Words.{rowCount, sheetOf}
 use Rattle.rows.specs.Inner.{SoundRows}
 
@@ -35,3 +39,29 @@ pub record Prepared (words R taken : List ℕ) (row count processors : ℕ) : Ty
   pub counted : count ≡ rowCount words
   pub shared : taken ≡ shares (sheetOf words) row R
   pub some-processor : 1 ≤ processors
+
+-- The bound that a turn gives, from the answer as the code says it.
+unfoldable pub boundOr : Found → ℕ → ℕ
+boundOr (At bound) deadline = bound
+boundOr Nowhere deadline = deadline
+
+-- Whether there is an answer.
+unfoldable pub isFound : Found → Bool
+isFound (At bound) = true
+isFound Nowhere = false
+
+-- The sum of the bounds, which falls with each pass that changes one.
+unfoldable pub boundsSum : Sheet → List ℕ → ℕ
+boundsSum s R = total (λ k. getD R k 0) (s .rows)
+
+-- What a pass leaves: the bounds that its definition gives; unmoved, the bounds it met, with their marks; moved, a smaller sum.
+pub record AfterPass (s : Sheet) (ask : Ask) (pass : List ℕ → List ℕ) (before after : List ℕ) (moved : Bool) (seen : ℕ) : Type 0 where
+  pub exact : after ≡ pass before
+  pub still : moved ≡ false → (after ≡ before) × (seen ≡ marks s ask before)
+  pub lower : moved ≡ true → boundsSum s after < boundsSum s before
+
+-- What copying leaves: the new bounds, and whether any differs from what was there.
+pub record Copied (before after new : List ℕ) (moved : Bool) : Type 0 where
+  pub exact : after ≡ new
+  pub still : moved ≡ false → new ≡ before
+  pub differs : moved ≡ true → new ≡ before → ⊥

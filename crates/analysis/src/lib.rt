@@ -2,6 +2,7 @@
 mod checks;
 mod interference;
 mod numbers;
+mod passes;
 mod response;
 
 use checks::question_refusal;
@@ -16,6 +17,13 @@ pub struct OneRow {
     pub refusal: u32,
     pub place: u32,
     pub answer: Found,
+}
+
+// The answer of a refinement: a refusal's number and place, or 0, 0 and the marks.
+pub struct Refined {
+    pub refusal: u32,
+    pub place: u32,
+    pub marks: u64,
 }
 
 // One row's answer under given bounds: the least response time that solves the equation (method 1), the formula's value (method 0), or none.

@@ -30,6 +30,13 @@ unfolding bits total
 bits-below f zero = omega arith
 bits-below f (suc n) = omega (arith, bits-below f n, bit-times (f n) (2 ^ n), two-pow-succ n)
 
+-- One bit more, as a loop meets it: the bits before and the next test give the bits up to it, still below the next power.
+pub bits-next : (f : ℕ → Bool) (n seen : ℕ) (b : Bool) → seen ≡ bits f n → b ≡ f n → seen + bit b * 2 ^ n ≡ bits f (n + 1)
+bits-next f n seen b so-far here = rw (so-far, here, add-one) (sym (bits-more f n))
+
+pub bit-below : (seen n : ℕ) (b : Bool) → seen < 2 ^ n → seen + bit b * 2 ^ n < 2 ^ (n + 1)
+bit-below seen n b small = rw add-one (omega (arith, bit-times b (2 ^ n), two-pow-succ n))
+
 -- Adding an even multiple of 2 ^ j leaves bit j.
 higher-leaves : (x y j : ℕ) → bitAt (x + y * 2 ^ suc j) j ≡ bitAt x j
 higher-leaves x y j =

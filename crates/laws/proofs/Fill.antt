@@ -4,13 +4,13 @@ use mathlib.Core.Bool.{Bool, true, false, _&&_}
 use mathlib.Core.List.{List, [], _∷_, _++_, append-assoc, append-nil}
 use mathlib.Core.Logic.{_⊎_, inl, inr, ⊎-elim}
 use Prim.Native.Nat.{ℕ, zero, suc, _+_, _*_, _-_, _≤_, _<_}
-use native.Mathlib.Nat.{eq-or-lt-of-le, le-of-suc-le-suc, le-step, le-antisymm, lt-suc-self, suc-mul, zero-mul, mul-le-mul-right, le-trans, le-refl}
+use native.Mathlib.Nat.{eq-or-lt-of-le, le-of-suc-le-suc, le-step, le-antisymm, add-zero, lt-suc-self, suc-mul, zero-mul, mul-le-mul-right, le-trans, le-refl}
 use native.Mathlib.Numerals.{add-one}
 use native.Mathlib.Omega.{arith}
 use borrow.Author.Tests.{eqb-true, eq-eqb}
 use lib.Dec.{eqb}
 use lib.ListN.{length, getD, take, drop, set, length-append, length-drop, List·getD-append}
-use lib.Seq.{ext-getD, drop-length, drop-cons, set-at, take-all, take-at, drop-at, take-append-le, drop-append-le, drop-drop, getD-at, getD-take, getD-drop, append-snoc}
+use lib.Seq.{getD-append-add, ext-getD, drop-length, drop-cons, set-at, take-all, take-at, drop-at, take-append-le, drop-append-le, drop-drop, getD-at, getD-take, getD-drop, append-snoc}
 use Rattle.laws.proofs.Choice.{never-both, and-left, and-right}
 use Rattle.laws.specs.Sum.{total}
 use Rattle.laws.proofs.Order.{below-or-from}
@@ -59,6 +59,17 @@ listed-none f before = refl
 pub listed-all : (f : ℕ → ℕ) (n : ℕ) (before now : List ℕ) → length before ≡ n → now ≡ listed f n ++ drop n before → now ≡ listed f n
 listed-all f n before now size filled =
     filled ∙ rw (← size, drop-length before) (append-nil (listed f (length before)))
+
+-- What stands where the next value goes is what stood there before.
+pub listed-next : (f : ℕ → ℕ) (i : ℕ) (before now : List ℕ) → now ≡ listed f i ++ drop i before → getD now i 0 ≡ getD before i 0
+listed-next f i before now filled =
+    ap (λ (l : List ℕ). getD l i 0) filled
+    ∙ behind (listed f i) (drop i before) i (listed-length f i)
+    ∙ getD-drop i before 0 0
+    ∙ ap (λ (k : ℕ). getD before k 0) (add-zero i)
+  where
+    behind : (front rest : List ℕ) (i : ℕ) → length front ≡ i → getD (front ++ rest) i 0 ≡ getD rest 0 0
+    behind front rest i size = ap (λ (k : ℕ). getD (front ++ rest) k 0) (sym size ∙ sym (add-zero (length front))) ∙ getD-append-add front rest 0 0
 
 -- A list is the listing of what stands at its places.
 pub listed-back : (l : List ℕ) (n : ℕ) → length l ≡ n → listed (λ i. getD l i 0) n ≡ l

@@ -17,7 +17,7 @@ use Rattle.laws.proofs.Fill.{below-antisymm}
 use Rattle.laws.proofs.Bits.{bits-below, bits-at, bits-past, every-each, each-every, every-full, full-every}
 use Rattle.model.specs.Sheet.{Sheet}
 use Rattle.model.specs.Refine.{Ask, deadlines, turn, round, sweep, until, passes, rounds, atOnce, marked, marks, accepted, Consistent, Supported, Largest, SameEnd, MarksSay, Dominates}
-use Rattle.model.proofs.Refine.{Regular, Pass, Ended, deadlines-held, deadlines-sum, until-ends, round-pass, sweep-pass}
+use Rattle.model.proofs.Refine.{Regular, Held, Pass, Ended, deadlines-held, deadlines-sum, until-ends, round-pass, sweep-pass}
 
 -- What marks say, by the laws of bits.
 pub marks-say : (s : Sheet) (ask : Ask) (R : List ℕ) → MarksSay s ask R
@@ -90,6 +90,18 @@ module _ (s : Sheet) (ask : Ask) (regular : Regular s ask) where
         only = λ R largest. largest-unique s ask R (rounds s ask) largest rounds-largest;
         unmarked = unmarked-deadline s ask (rounds s ask) (rounds-largest .consistent);
       }
+
+  -- Bounds on the way that a round leaves as they are are where the rounds engine ends.
+  pub round-settled : (R : List ℕ) → Held s ask R → round s ask R ≡ R → R ≡ rounds s ask
+  round-settled R held still =
+      largest-unique s ask R (rounds s ask)
+      (ended-largest (round s ask) (round-pass s ask regular) R (record { held = held; still = still })) rounds-largest
+
+  -- And those that a sweep leaves as they are are where the at-once engine ends.
+  pub sweep-settled : (R : List ℕ) → Held s ask R → sweep s ask (s .rows) R ≡ R → R ≡ atOnce s ask
+  sweep-settled R held still =
+      largest-unique s ask R (atOnce s ask)
+      (ended-largest (sweep s ask (s .rows)) (sweep-pass s ask regular) R (record { held = held; still = still })) at-once-largest
 
   -- Every supported set lies below the end, not only every consistent one.
   pub supported-below : (Q : List ℕ) → Supported s ask Q → Below (s .rows) Q (rounds s ask)

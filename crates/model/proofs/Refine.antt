@@ -125,11 +125,11 @@ module _ (s : Sheet) (ask : Ask) (regular : Regular s ask) where
       decided (yes here) = rw (here, one-turn-at R k one-each h) turned
       decided (no other) = rw (getD-set-other R k j (turn s ask k R) 0 other) left
 
-  one-turn-lowers : (R : List ℕ) (k : ℕ) → Held s ask R → k < s .rows → Below (s .rows) (set R k (turn s ask k R)) R
+  pub one-turn-lowers : (R : List ℕ) (k : ℕ) → Held s ask R → k < s .rows → Below (s .rows) (set R k (turn s ask k R)) R
   one-turn-lowers R k held h j inside =
       after-one-turn (λ j x. x ≤ getD R j 0) R k (held .one-each) h (held .falls k h) j (le-refl (getD R j 0))
 
-  one-turn-held : (R : List ℕ) (k : ℕ) → Held s ask R → k < s .rows → Held s ask (set R k (turn s ask k R))
+  pub one-turn-held : (R : List ℕ) (k : ℕ) → Held s ask R → k < s .rows → Held s ask (set R k (turn s ask k R))
   one-turn-held R k held h =
       lowered R (set R k (turn s ask k R)) held (length-set R k (turn s ask k R) ∙ held .one-each) (one-turn-lowers R k held h)
       (λ j inside.
@@ -141,7 +141,7 @@ module _ (s : Sheet) (ask : Ask) (regular : Regular s ask) where
   sweep-held R held zero h = held
   sweep-held R held (suc k) h = one-turn-held (sweep s ask k R) k (sweep-held R held k (le-of-suc-le h)) h
 
-  sweep-lowers : (R : List ℕ) → Held s ask R → (k : ℕ) → k ≤ s .rows → Below (s .rows) (sweep s ask k R) R
+  pub sweep-lowers : (R : List ℕ) → Held s ask R → (k : ℕ) → k ≤ s .rows → Below (s .rows) (sweep s ask k R) R
   unfolding sweep
   sweep-lowers R held zero h i inside = le-refl (getD R i 0)
   sweep-lowers R held (suc k) h i inside =
@@ -204,11 +204,9 @@ module _ (s : Sheet) (ask : Ask) (regular : Regular s ask) where
 
   module _ (pass : List ℕ → List ℕ) (is-pass : Pass s ask pass) where
     -- A pass that changes something lowers the sum.
-    sum-falls : (R : List ℕ) → Held s ask R → same (pass R) R ≡ false
-        → total (λ k. getD (pass R) k 0) (s .rows) < total (λ k. getD R k 0) (s .rows)
-    sum-falls R held changed =
-        below-lowers (s .rows) (pass R) R (is-pass .keeps R held .one-each) (held .one-each) (is-pass .lowers R held)
-        (λ unchanged. never-both (rw unchanged (same-self R)) changed)
+    pub sum-falls : (R : List ℕ) → Held s ask R → (pass R ≡ R → ⊥) → total (λ k. getD (pass R) k 0) (s .rows) < total (λ k. getD R k 0) (s .rows)
+    sum-falls R held changes =
+        below-lowers (s .rows) (pass R) R (is-pass .keeps R held .one-each) (held .one-each) (is-pass .lowers R held) changes
 
     -- With as many passes as the sum lies above the floor, the passes end.
     pub until-ends : (most : ℕ) (R : List ℕ) → Held s ask R
@@ -218,7 +216,7 @@ module _ (s : Sheet) (ask : Ask) (regular : Regular s ask) where
     until-ends zero R held room = absurd (omega (arith, floor-within R held))
     until-ends (suc most) R held room =
         decided (same (pass R) R) refl
-        (λ changed. until-ends most (pass R) (is-pass .keeps R held) (omega (arith, sum-falls R held changed)))
+        (λ changed. until-ends most (pass R) (is-pass .keeps R held) (omega (arith, sum-falls R held (λ unchanged. never-both (rw unchanged (same-self R)) changed))))
       where
         decided : (b : Bool) → same (pass R) R ≡ b → (same (pass R) R ≡ false → Ended s ask pass (until pass most (pass R)))
             → Ended s ask pass (pick b R (until pass most (pass R)))

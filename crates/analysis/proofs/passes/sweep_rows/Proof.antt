@@ -1,0 +1,126 @@
+-- `sweep_rows` stands where a sweep stands before each row, and one turn takes it on.
+use borrow.Author.Needs.{needs}
+use mathlib.Core.Path.{_≡_, _∙_, sym, ap}
+use mathlib.Core.Logic.{⊎-elim, inl, inr}
+use Prim.Native.Nat.{ℕ, _+_, _-_, _≤_, _<_}
+use lib.ListN.{length, length-set}
+use denote.Ref.{now}
+use Rattle.model.specs.Refine.{sweep}
+use Rattle.rows.specs.Words.{rowCount, sheetOf}
+use Rattle.rows.proofs.Words.{sheet-rows}
+use Rattle.analysis.specs.Refinement.{askOf}
+use Rattle.analysis.specs.Inner.{AfterPass}
+use Rattle.analysis.proofs.Steps.{Sweeping, turn-found, ready-lower, sweep-start, sweep-end, sweeping-held, sweeping-below, sweep-on, ask-regular}
+use native.Mathlib.Omega.{arith}
+use Rattle.analysis.proofs.passes.sweep_rows.Statement.{statement}
+use Rattle.analysis.proofs.passes.sweep_rows.Tie as tie
+
+abbrev Inv-loop : tie.InvT-loop
+Inv-loop words bounds₀ processors method count moved₀ seen₀ row₀ bounds moved seen row =
+    (length bounds ≡ count) × Sweeping (sheetOf words) (askOf words processors method) bounds₀ bounds moved seen row
+
+abbrev μ-loop : tie.MeasureT-loop
+μ-loop words bounds₀ processors method count moved₀ seen₀ row₀ bounds moved seen row = count - row
+
+loop-holds : tie.Need-loop-holds Inv-loop μ-loop
+loop-holds c =
+    let p = c .before .before in
+    (omega (arith, p .pre .0 .one-each, p .pre .1), sweep-start _ _ _)
+
+answer-row-requires : tie.Need-answer-row-requires Inv-loop μ-loop
+answer-row-requires c κs =
+    let p = c .before .before .before .before .before in
+    let q = c .before .before .loop in
+    let regular = ask-regular (now (p .args .words)) (p .args .processors) (p .args .method) in (
+      ready-lower _ _ regular _ _ (p .pre .0) (sweeping-held _ _ regular _ (p .pre .3) _ _ _ _ (q .inv .1))
+          (sweeping-below _ _ regular _ (p .pre .3) _ _ _ _ (q .inv .1)),
+      omega (arith, p .pre .1),
+      p .pre .1,
+      p .pre .2,
+    )
+
+deadline-requires : tie.Need-deadline-requires Inv-loop μ-loop
+deadline-requires c κs = search needs
+
+bound-or-requires : tie.Need-bound-or-requires Inv-loop μ-loop
+bound-or-requires c κs = search needs
+
+with-mark-requires : tie.Need-with-mark-requires Inv-loop μ-loop
+with-mark-requires c κs =
+    let p = c .before .before .before .before .before .before .before .before in
+    (omega (arith, p .pre .0 .rows .at-most, p .pre .1), c .before .before .before .before .before .loop .inv .1 .small)
+
+cast-if1 : tie.Need-cast-if1 Inv-loop μ-loop
+cast-if1 c = search needs
+
+mul-if1 : tie.Need-mul-if1 Inv-loop μ-loop
+mul-if1 c = search needs
+
+slice-read-if1 : tie.Need-slice-read-if1 Inv-loop μ-loop
+slice-read-if1 c = search needs
+
+cast-bounds : tie.Need-cast-bounds Inv-loop μ-loop
+cast-bounds c = search needs
+
+mul-bounds : tie.Need-mul-bounds Inv-loop μ-loop
+mul-bounds c = search needs
+
+slice-write-bounds : tie.Need-slice-write-bounds Inv-loop μ-loop
+slice-write-bounds c = search needs
+
+add-row : tie.Need-add-row Inv-loop μ-loop
+add-row c = search needs
+
+loop-less : tie.Need-loop-less Inv-loop μ-loop
+loop-less c = search needs
+
+loop-again : tie.Need-loop-again Inv-loop μ-loop
+unfolding askOf
+loop-again c =
+    let p = c .before .before .before .before .before .before .before .before .before .before .before in
+    let q = c .before .before .before .before .before .before .before .before .loop in
+    let words = now (p .args .words) in
+    let asked = c .before .before .before .before .before .answer-row in
+    let bound = c .before .before .before .bound-or in (
+      length-set (q .bounds) (q .row) (bound .result) ∙ q .inv .0,
+      rw (c .before .before .with-mark .ensures)
+          (sweep-on (sheetOf words) (askOf words (p .args .processors) (p .args .method)) (ask-regular words (p .args .processors) (p .args .method))
+          (now (p .args .bounds)) (p .pre .3) (q .bounds) (q .moved) (q .seen) (q .row) (q .inv .1) (asked .result) (bound .result) (c .if1 .moved)
+          (omega (arith, p .pre .1, sheet-rows words)) (asked .ensures)
+          (turn-found _ _ _ _ _ _ _ (asked .ensures) (c .before .before .before .before .deadline .ensures) (bound .ensures))
+          (⊎-elim (λ w. inl (w .0 .taken, w .1)) (λ w. inr (w .0 .left, w .1)) (c .if1 .came))),
+    )
+
+same-length : tie.Need-same-length Inv-loop μ-loop
+same-length c = search needs
+
+returns : tie.Need-returns Inv-loop μ-loop
+returns c =
+    let p = c .before .before .before .before in
+    let q = c .before .loop in
+    let words = now (p .args .words) in
+    let done : q .row ≡ rowCount words = omega (arith, q .inv .1 .upto, p .pre .1, sheet-rows words) in
+    rw (← done) (sweep-end _ _ _ _ _ _ (q .row) (q .inv .1) (done ∙ sym (sheet-rows words)))
+
+pub sweep-rows-spec : {M : Type 1} → statement M
+sweep-rows-spec =
+    tie.close
+    (tie.spec
+    Inv-loop
+    μ-loop
+    loop-holds
+    answer-row-requires
+    deadline-requires
+    bound-or-requires
+    with-mark-requires
+    cast-if1
+    mul-if1
+    slice-read-if1
+    cast-bounds
+    mul-bounds
+    slice-write-bounds
+    add-row
+    loop-less
+    loop-again
+    same-length
+    returns)
