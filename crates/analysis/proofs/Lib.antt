@@ -2,3 +2,5 @@ pub mod Limits
 pub mod Shares
 pub mod Question
 pub mod Steps
+pub mod Refinement
+pub mod Demands

@@ -1,13 +1,14 @@
 -- Refinement on words: its checks, what either engine answers, and what it leaves in the lent words.
 use mathlib.Core.Path.{_≡_}
-use mathlib.Core.Bool.{Bool, true, false}
 use mathlib.Core.List.{List, _++_}
 use Prim.Native.Nat.{ℕ, _≤_, _<_}
 use lib.ListN.{length, getD, take, drop}
 use Rattle.laws.specs.Choice.{unlessRefused}
+use Rattle.laws.specs.Fill.{Below}
+use Rattle.laws.specs.Bits.{bit, bitAt}
 use Rattle.model.specs.Sheet.{Sheet}
 use Rattle.model.specs.Answer.{methodOf, answer}
-use Rattle.model.specs.Refine.{Ask, marks}
+use Rattle.model.specs.Refine.{Ask, rounds, atOnce, marked, marks, Largest}
 use Rattle.rows.specs.declared.Refusal.{Refusal}
 use Rattle.rows.specs.Words.{rowCount, sheetOf}
 use Rattle.rows.specs.Checks.{processorsRefusal, roomRefusal, firstOf, wordsRefusal}
@@ -47,3 +48,23 @@ unfoldable pub refinedWords : Engine → List ℕ → ℕ → ℕ → List ℕ �
 refinedWords engine words processors method out =
     unlessRefused ((refineRefusal words processors method (length out)) .number) out
     (finalBounds engine words processors method ++ drop (rowCount words) out)
+
+-- Demand 3 of the two entries, refused or not: the same answer, and the same words left behind.
+pub record EntriesAgree (words : List ℕ) (processors method : ℕ) (out : List ℕ) : Type 0 where
+  pub same-answer : refined rounds words processors method (length out) ≡ refined atOnce words processors method (length out)
+  pub same-words : refinedWords rounds words processors method out ≡ refinedWords atOnce words processors method out
+
+-- What an answer and the words left behind promise where nothing is refused: in front the largest consistent set, behind it what stood there;
+-- bit k is set exactly if row k is marked, and bits at and above the row count are 0; a row not marked has its deadline.
+pub record Settled (words : List ℕ) (processors method : ℕ) (answer : Refined) (after out : List ℕ) : Type 0 where
+  pub bounds : Largest (sheetOf words) (askOf words processors method) (take (rowCount words) after)
+  pub behind : drop (rowCount words) after ≡ drop (rowCount words) out
+  pub each-mark : (k : ℕ) → k < rowCount words
+      → bitAt (answer .marks) k ≡ bit (marked (askOf words processors method) (take (rowCount words) after) k)
+  pub no-more : (k : ℕ) → rowCount words ≤ k → bitAt (answer .marks) k ≡ 0
+  pub unmarked : (k : ℕ) → k < rowCount words → bitAt (answer .marks) k ≡ 0 → getD after k 0 ≡ (sheetOf words) .deadline k
+
+-- RTA's answer and words against BCL's: no word above, and every mark kept.
+pub record NoWorse (words : List ℕ) (rta bcl : Refined) (rtaWords bclWords : List ℕ) : Type 0 where
+  pub bounds : Below (rowCount words) rtaWords bclWords
+  pub keeps-marks : (k : ℕ) → k < rowCount words → bitAt (bcl .marks) k ≡ 1 → bitAt (rta .marks) k ≡ 1

@@ -1,9 +1,10 @@
-// The checks of the one-row question.
+// The checks of the entries.
 use rows::Refusal;
 use rows::cost;
 use rows::deadline;
 use rows::first_of;
 use rows::processors_refusal;
+use rows::room_refusal;
 use rows::row_count;
 use rows::words_refusal;
 ghost use mathlib.Core.Path.{_≡_};
@@ -12,6 +13,7 @@ ghost use lib.ListN.{length};
 ghost use Rattle.laws.specs.Bits.{every};
 ghost use Rattle.rows.specs.Words.{rowCount, sheetOf};
 ghost use Rattle.analysis.specs.Question.{methodRefusal, boundAllowed, questionAllowed, oneRowRefusal};
+ghost use Rattle.analysis.specs.Refinement.{refineRefusal};
 
 // 5 where the method is above 1, else 0.
 pub(crate) fn method_refusal(method: u32) -> u32
@@ -89,4 +91,12 @@ pub(crate) fn question_refusal(
             place: 0,
         }
     }
+}
+
+// The refusal of a refinement, in number order: 2, 3, 4, 5, 7, 8.
+pub(crate) fn refine_refusal(words: &[u32], processors: u32, method: u32, room: usize) -> Refusal
+    ensures { λ r. ⌜ r ≡ refineRefusal (now (words .entry)) processors method room ⌝ }
+{
+    let rest = first_of(method_refusal(method), room_refusal(room, row_count(words)));
+    words_refusal(words, first_of(processors_refusal(processors), rest))
 }

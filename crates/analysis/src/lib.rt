@@ -6,11 +6,17 @@ mod passes;
 mod response;
 
 use checks::question_refusal;
+use checks::refine_refusal;
+use passes::run_at_once;
+use passes::run_rounds;
 use response::answer_row;
 use rows::Found;
 use rows::row_count;
 ghost use mathlib.Core.Path.{_≡_};
+ghost use lib.ListN.{length};
+ghost use Rattle.model.specs.Refine.{rounds, atOnce};
 ghost use Rattle.analysis.specs.Question.{oneRow};
+ghost use Rattle.analysis.specs.Refinement.{refined, refinedWords};
 
 // The answer to the one-row question: a refusal's number and place, or 0, 0 and the row's bound or none.
 pub struct OneRow {
@@ -45,5 +51,53 @@ pub fn one_row(words: &[u32], processors: u32, method: u32, bounds: &[u32], row:
         refusal: 0,
         place: 0,
         answer: answer,
+    }
+}
+
+// The whole sheet refined by the rounds engine: every row from the bounds at the start of the round. The final bounds are written to the front of the lent words, and the marks returned.
+pub fn refine_rounds(words: &[u32], processors: u32, method: u32, bounds: &mut [u32]) -> Refined
+    ensures answered { λ r. ⌜ r ≡ refined rounds (now (words .entry)) processors method (length (now (bounds .entry))) ⌝ }
+    ensures written { λ r. ⌜ now (bounds .exit) ≡ refinedWords rounds (now (words .entry)) processors method (now (bounds .entry)) ⌝ }
+{
+    let refusal = refine_refusal(words, processors, method, bounds.len());
+    let number = refusal.number;
+    if number != 0 {
+        return Refined {
+            refusal: number,
+            place: refusal.place,
+            marks: 0,
+        };
+    }
+    let need = row_count(words);
+    let count = need as u32;
+    let marks = run_rounds(words, &mut bounds[..need], processors, method, count);
+    Refined {
+        refusal: 0,
+        place: 0,
+        marks: marks,
+    }
+}
+
+// The whole sheet refined by the at-once engine: rows 0 upward, each new bound used immediately. The final bounds are written to the front of the lent words, and the marks returned.
+pub fn refine_at_once(words: &[u32], processors: u32, method: u32, bounds: &mut [u32]) -> Refined
+    ensures answered { λ r. ⌜ r ≡ refined atOnce (now (words .entry)) processors method (length (now (bounds .entry))) ⌝ }
+    ensures written { λ r. ⌜ now (bounds .exit) ≡ refinedWords atOnce (now (words .entry)) processors method (now (bounds .entry)) ⌝ }
+{
+    let refusal = refine_refusal(words, processors, method, bounds.len());
+    let number = refusal.number;
+    if number != 0 {
+        return Refined {
+            refusal: number,
+            place: refusal.place,
+            marks: 0,
+        };
+    }
+    let need = row_count(words);
+    let count = need as u32;
+    let marks = run_at_once(words, &mut bounds[..need], processors, method, count);
+    Refined {
+        refusal: 0,
+        place: 0,
+        marks: marks,
     }
 }

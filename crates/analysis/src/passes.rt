@@ -9,6 +9,7 @@ ghost use Rattle.laws.specs.Bits.{bit};
 ghost use Rattle.model.specs.Refine.{deadlines, round, sweep, rounds, atOnce, marks};
 ghost use Rattle.model.proofs.Refine.{Held};
 ghost use Rattle.rows.specs.Words.{rowCount, sheetOf};
+ghost use Rattle.rows.specs.Inner.{SoundRows};
 ghost use Rattle.analysis.specs.Refinement.{askOf};
 ghost use Rattle.analysis.specs.Inner.{Ready, boundOr, isFound, AfterPass, Copied};
 
@@ -185,4 +186,38 @@ pub(crate) fn settle_at_once(
             return outcome.seen;
         }
     }
+}
+
+// The rounds engine from its start: all bounds at the deadlines.
+pub(crate) fn run_rounds(
+    words: &[u32],
+    bounds: &mut [u32],
+    processors: u32,
+    method: u32,
+    count: u32,
+) -> u64
+    requires { ⌜ SoundRows (now words) × (count ≡ rowCount (now words)) × (1 ≤ processors) × (length (now bounds) ≡ count) ⌝ }
+    ensures seen { λ r. ⌜ r ≡ marks (sheetOf (now (words .entry))) (askOf (now (words .entry)) processors method) (rounds (sheetOf (now (words .entry))) (askOf (now (words .entry)) processors method)) ⌝ }
+    ensures settled { λ r. ⌜ now (bounds .exit) ≡ rounds (sheetOf (now (words .entry))) (askOf (now (words .entry)) processors method) ⌝ }
+{
+    fill_deadlines(words, bounds, count);
+    let mut next = [0u32; 64];
+    let end = count as usize;
+    settle_rounds(words, bounds, &mut next[..end], processors, method, count)
+}
+
+// The at-once engine from its start: all bounds at the deadlines.
+pub(crate) fn run_at_once(
+    words: &[u32],
+    bounds: &mut [u32],
+    processors: u32,
+    method: u32,
+    count: u32,
+) -> u64
+    requires { ⌜ SoundRows (now words) × (count ≡ rowCount (now words)) × (1 ≤ processors) × (length (now bounds) ≡ count) ⌝ }
+    ensures seen { λ r. ⌜ r ≡ marks (sheetOf (now (words .entry))) (askOf (now (words .entry)) processors method) (atOnce (sheetOf (now (words .entry))) (askOf (now (words .entry)) processors method)) ⌝ }
+    ensures settled { λ r. ⌜ now (bounds .exit) ≡ atOnce (sheetOf (now (words .entry))) (askOf (now (words .entry)) processors method) ⌝ }
+{
+    fill_deadlines(words, bounds, count);
+    settle_at_once(words, bounds, processors, method, count)
 }

@@ -23,10 +23,11 @@ same-length-2 c = search needs
 returns : tie.Need-returns
 returns c =
     let p = c .before .before .before .before .before .before .before .before .before .before .before .before .before in
-    let filled = c .before .before .before .before .before .before .before .fill-turns in
-    (round-done _ _ (ask-regular (now (p .args .words)) (p .args .processors) (p .args .method)) _ _ _ _ _ (p .pre .3) (filled .ensures .1)
-    (c .before .before .copy-back .ensures) (filled .ensures .0),
-    search needs)
+    let filled = c .before .before .before .before .before .before .before .fill-turns in (
+      round-done _ _ (ask-regular (now (p .args .words)) (p .args .processors) (p .args .method)) _ _ _ _ _ (p .pre .3) (filled .ensures .1)
+          (c .before .before .copy-back .ensures) (filled .ensures .0),
+      search needs,
+    )
 
 pub round-rows-spec : {M : Type 1} → statement M
 round-rows-spec =

@@ -1,0 +1,34 @@
+-- `run_at_once` starts from the deadlines, which are ready and hold what bounds on the way hold.
+use borrow.Author.Needs.{needs}
+use mathlib.Core.Path.{_≡_, sym}
+use denote.Ref.{now}
+use Rattle.model.proofs.Refine.{deadlines-held}
+use Rattle.rows.specs.Words.{sheetOf}
+use Rattle.analysis.proofs.Steps.{ask-regular}
+use Rattle.analysis.proofs.Refinement.{deadlines-ready}
+use Rattle.analysis.proofs.passes.run_at_once.Statement.{statement}
+use Rattle.analysis.proofs.passes.run_at_once.Tie as tie
+
+fill-deadlines-requires : tie.Need-fill-deadlines-requires
+fill-deadlines-requires c κs = search needs
+
+settle-at-once-requires : tie.Need-settle-at-once-requires
+settle-at-once-requires c κs =
+    let p = c .before .before .before .before .before .before .before in
+    let words = now (p .args .words) in
+    rw (c .before .before .before .fill-deadlines .ensures) (
+      deadlines-ready words (p .pre .0),
+      p .pre .1,
+      p .pre .2,
+      deadlines-held (sheetOf words) _ (ask-regular words (p .args .processors) (p .args .method)),
+    )
+
+same-length : tie.Need-same-length
+same-length c = search needs
+
+returns : tie.Need-returns
+returns c = search needs
+
+pub run-at-once-spec : {M : Type 1} → statement M
+run-at-once-spec =
+    tie.close (tie.spec fill-deadlines-requires settle-at-once-requires same-length returns)

@@ -1,0 +1,75 @@
+-- `refine_at_once` answers by its refusal, or lends the front of the words to the engine: the laws of both entries, at this engine.
+use borrow.Author.Needs.{needs}
+use mathlib.Core.Path.{_≡_, sym, _∙_, ap}
+use denote.Ref.{now}
+use lib.ListN.{length}
+use lib.Seq.{length-take-le}
+use Rattle.model.specs.Refine.{atOnce}
+use Rattle.rows.specs.declared.Refusal.{Refusal}
+use Rattle.analysis.specs.Refinement.{refineRefusal}
+use Rattle.analysis.proofs.Refinement.{Refining, refining, refine-refused, refine-answered}
+use native.Mathlib.Omega.{arith}
+use Rattle.analysis.proofs.refine_at_once.Statement.{statement}
+use Rattle.analysis.proofs.refine_at_once.Tie as tie
+
+refine-refusal-requires : tie.Need-refine-refusal-requires
+refine-refusal-requires c κs = search needs
+
+returns : tie.Need-returns
+returns c = refine-refused atOnce _ _ _ _ _ (c .before .refine-refusal .ensures) (c .if1 .taken)
+
+row-count-requires : tie.Need-row-count-requires
+row-count-requires c κs = search needs
+
+-- Past the test the refusal's number is 0.
+passed : (c : tie.Else1) → let p = c .before .before .before .before in
+    (refineRefusal (now (p .args .words)) (p .args .processors) (p .args .method) (length (now (p .args .bounds)))) .number ≡ 0
+passed c = sym (ap (λ (r : Refusal). r .number) (c .before .refine-refusal .ensures)) ∙ c .if1 .left
+
+facts : (c : tie.Else1) → let p = c .before .before .before .before in
+    Refining (now (p .args .words)) (p .args .processors) (length (now (p .args .bounds)))
+facts c = refining _ _ _ _ (passed c)
+
+cast-count : tie.Need-cast-count
+cast-count c = omega (arith, facts (c .before) .rows .at-most)
+
+slice-relend-prefix-run-at-once : tie.Need-slice-relend-prefix-run-at-once
+slice-relend-prefix-run-at-once c = omega (arith, facts (c .before) .enough)
+
+slice-aggregate-run-at-once : tie.Need-slice-aggregate-run-at-once
+slice-aggregate-run-at-once c =
+    let p = c .before .before .before .before .before .before in
+    sym (length-take-le (c .before .row-count .result) (now (p .args .bounds)) (omega (arith, facts (c .before .before) .enough)))
+
+run-at-once-requires : tie.Need-run-at-once-requires
+run-at-once-requires c κs =
+    let p = c .before .before .before .before .before .before in
+    let known = facts (c .before .before) in (
+      known .rows,
+      c .before .row-count .ensures,
+      known .processors,
+      length-take-le (c .before .row-count .result) (now (p .args .bounds)) (omega (arith, known .enough)),
+    )
+
+same-length : tie.Need-same-length
+same-length c = search needs
+
+returns-2 : tie.Need-returns-2
+returns-2 c =
+    let run = c .before .before in
+    refine-answered atOnce _ _ _ _ (passed (run .before .before .before)) _ _ _ (run .run-at-once .ensures .0) (run .run-at-once .ensures .1)
+    (run .before .before .row-count .ensures)
+
+pub refine-at-once-spec : {M : Type 1} → statement M
+refine-at-once-spec =
+    tie.close
+    (tie.spec
+    refine-refusal-requires
+    returns
+    row-count-requires
+    cast-count
+    slice-relend-prefix-run-at-once
+    slice-aggregate-run-at-once
+    run-at-once-requires
+    same-length
+    returns-2)
