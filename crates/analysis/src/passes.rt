@@ -102,11 +102,11 @@ pub(crate) fn copy_back(next: &[u32], bounds: &mut [u32], count: u32) -> bool
     let mut moved = false;
     let mut row = 0;
     while row < count {
-        let bound = next[row as usize];
-        if bounds[row as usize] != bound {
+        let new = next[row as usize];
+        if bounds[row as usize] != new {
             moved = true;
         }
-        bounds[row as usize] = bound;
+        bounds[row as usize] = new;
         row += 1;
     }
     moved
@@ -160,8 +160,8 @@ pub(crate) fn settle_rounds(
 {
     loop {
         let outcome = round_rows(words, bounds, next, processors, method, count);
-        let moved = outcome.moved;
-        if !moved {
+        let again = outcome.moved;
+        if !again {
             return outcome.seen;
         }
     }

@@ -20,14 +20,14 @@ abbrev μ-loop : tie.MeasureT-loop
 loop-holds : tie.Need-loop-holds Inv-loop μ-loop
 loop-holds c = (omega arith, c .pre .1, copy-start _ _)
 
-cast-bound : tie.Need-cast-bound Inv-loop μ-loop
-cast-bound c = search needs
+cast-new : tie.Need-cast-new Inv-loop μ-loop
+cast-new c = search needs
 
-mul-bound : tie.Need-mul-bound Inv-loop μ-loop
-mul-bound c = search needs
+mul-new : tie.Need-mul-new Inv-loop μ-loop
+mul-new c = search needs
 
-shared-slice-read-bound : tie.Need-shared-slice-read-bound Inv-loop μ-loop
-shared-slice-read-bound c = search needs
+shared-slice-read-new : tie.Need-shared-slice-read-new Inv-loop μ-loop
+shared-slice-read-new c = search needs
 
 cast-if1 : tie.Need-cast-if1 Inv-loop μ-loop
 cast-if1 c = search needs
@@ -80,9 +80,9 @@ copy-back-spec =
     Inv-loop
     μ-loop
     loop-holds
-    cast-bound
-    mul-bound
-    shared-slice-read-bound
+    cast-new
+    mul-new
+    shared-slice-read-new
     cast-if1
     mul-if1
     slice-read-if1
