@@ -1,6 +1,6 @@
 // What other rows take of a row's time.
-use crate::numbers::less;
-use crate::numbers::lesser;
+use numbers::less;
+use numbers::lesser;
 use rows::cost;
 use rows::deadline;
 use rows::period;

@@ -1,7 +1,6 @@
 // The one-row question and the two engines, on lent words.
 mod checks;
 mod interference;
-mod numbers;
 mod passes;
 mod response;
 

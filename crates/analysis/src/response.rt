@@ -1,7 +1,7 @@
 // One row's answer: BCL by its formula, RTA by climbing from the cost.
 use crate::interference::fill_shares;
 use crate::interference::work_in_window;
-use crate::numbers::lesser;
+use numbers::lesser;
 use rows::Found;
 use rows::cost;
 use rows::deadline;

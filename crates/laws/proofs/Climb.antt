@@ -1,6 +1,6 @@
 -- The least fixed value of a function that keeps order: it exists below any number that the function does not raise, and climbing
 -- reaches it, since no fixed value is passed on the way.
-use mathlib.Core.Path.{_≡_, refl, sym, _∙_}
+use mathlib.Core.Path.{_≡_, refl, sym}
 use mathlib.Core.Bool.{Bool, true, false}
 use mathlib.Core.Logic.{_⊎_, inl, inr, ⊎-elim}
 use mathlib.Core.Option.{Option, none, some}
@@ -13,7 +13,7 @@ use Rattle.laws.specs.Choice.{pick, Better}
 use Rattle.laws.specs.Search.{least, First, Nothing, Searched}
 use Rattle.laws.specs.Climb.{Monotone, fixed, Passed, climb}
 use Rattle.laws.proofs.Order.{below-or-from}
-use Rattle.laws.proofs.Search.{least-means, searched-unique}
+use Rattle.laws.proofs.Search.{least-means, least-fixed}
 
 -- A fixed value from x to y.
 pub record FixedWithin (f : ℕ → ℕ) (x y : ℕ) : Type 0 where
@@ -62,38 +62,65 @@ climb-passes f mono a x passed moves z from below own =
     (eq-or-lt-of-le after))
     (below-or-from z x)
 
--- Above the top nothing in the range is left.
-beyond : (f : ℕ → ℕ) (a top x : ℕ) → top < x → Passed f a x → Nothing (fixed f) a (top + 1 - a)
-beyond f a top x above passed y from below = ne-eqb y (f y) (passed y from (omega arith))
+-- A climb in progress: from a, x has been reached; it is not above its value, and no fixed value was passed.
+pub record Climbed (f : ℕ → ℕ) (a x : ℕ) : Type 0 where
+  pub from : a ≤ x
+  pub rises : x ≤ f x
+  pub passed : Passed f a x
+
+-- The start, which its value is not below.
+pub climbed-first : (f : ℕ → ℕ) (a : ℕ) → a ≤ f a → Climbed f a a
+climbed-first f a rises = record { from = le-refl a; rises = rises; passed = λ z from below own. absurd (omega arith) }
+
+-- One value further.
+pub climbed-more : (f : ℕ → ℕ) → Monotone f → (a x : ℕ) → Climbed f a x → (x ≡ f x → ⊥) → Climbed f a (f x)
+climbed-more f mono a x climbed moves =
+    record {
+      from = le-trans (climbed .from) (climbed .rises);
+      rises = mono x (f x) (climbed .rises);
+      passed = climb-passes f mono a x (climbed .passed) moves;
+    }
+
+-- A number reached that is its own value is the least.
+pub climbed-found : (f : ℕ → ℕ) (a n x : ℕ) → Climbed f a x → x ≡ f x → x < a + n → least (fixed f) a n ≡ some x
+climbed-found f a n x climbed own inside =
+    least-fixed (fixed f) a n (some x)
+    (record {
+      passes = eq-eqb x (f x) own;
+      from = climbed .from;
+      inside = inside;
+      lowest = λ z from below. ne-eqb z (f z) (climbed .passed z from below);
+    })
+
+-- Past the range there is none in it.
+pub climbed-past : (f : ℕ → ℕ) (a n x : ℕ) → Climbed f a x → a + n ≤ x → least (fixed f) a n ≡ none
+climbed-past f a n x climbed past =
+    least-fixed (fixed f) a n none (λ z from below. ne-eqb z (f z) (climbed .passed z from (le-trans below past)))
 
 -- One value of the chain: above the top, fixed, or on to the next.
-one-value : (f : ℕ → ℕ) (a top x : ℕ) → a ≤ x → Passed f a x → (higher : Option ℕ)
-    → (x ≤ top → (x ≡ f x → ⊥) → Searched (fixed f) a (top + 1 - a) higher)
-    → (over : Bool) → ltb top x ≡ over → (own : Bool) → fixed f x ≡ own
-    → Searched (fixed f) a (top + 1 - a) (pick over none (pick own (some x) higher))
-one-value f a top x from passed higher next true is-over own is-own = beyond f a top x (ltb-true top x is-over) passed
-one-value f a top x from passed higher next false not-over true is-own =
+one-value : (f : ℕ → ℕ) (a top x : ℕ) → Climbed f a x → (higher : Option ℕ)
+    → ((x ≡ f x → ⊥) → higher ≡ least (fixed f) a (top + 1 - a)) → (over : Bool) → ltb top x ≡ over → (own : Bool) → fixed f x ≡ own
+    → pick over none (pick own (some x) higher) ≡ least (fixed f) a (top + 1 - a)
+one-value f a top x climbed higher next true is-over own is-own =
+    let above : top < x = ltb-true top x is-over in
+    sym (climbed-past f a (top + 1 - a) x climbed (omega (arith, climbed .from)))
+one-value f a top x climbed higher next false not-over true is-own =
     let within : x ≤ top = ltb-false top x not-over in
-    record { passes = is-own; from = from; inside = omega arith; lowest = λ y low below. ne-eqb y (f y) (passed y low below) }
-one-value f a top x from passed higher next false not-over false not-own =
-    next (ltb-false top x not-over) (eqb-false x (f x) not-own)
+    sym (climbed-found f a (top + 1 - a) x climbed (eqb-true x (f x) is-own) (omega (arith, climbed .from)))
+one-value f a top x climbed higher next false not-over false not-own = next (eqb-false x (f x) not-own)
 
--- What climbing has found, from a number up to which nothing is fixed.
-climbed : (f : ℕ → ℕ) → Monotone f → (a top steps x : ℕ) → a ≤ x → top < x + steps → x ≤ f x → Passed f a x
-    → Searched (fixed f) a (top + 1 - a) (climb f top steps x)
+-- A climb in progress, with values enough to pass the top, gives what the search gives.
+climb-goes-on : (f : ℕ → ℕ) → Monotone f → (a top steps x : ℕ) → Climbed f a x → top < x + steps
+    → climb f top steps x ≡ least (fixed f) a (top + 1 - a)
 unfolding climb
-climbed f mono a top zero x from room rises passed = beyond f a top x (omega arith) passed
-climbed f mono a top (suc steps) x from room rises passed =
-    one-value f a top x from passed (climb f top steps (f x))
-    (λ within moves.
-    climbed f mono a top steps (f x) (le-trans from rises) (omega arith) (mono x (f x) rises)
-    (climb-passes f mono a x passed moves))
+climb-goes-on f mono a top zero x climbed room =
+    sym (climbed-past f a (top + 1 - a) x climbed (omega (arith, climbed .from)))
+climb-goes-on f mono a top (suc steps) x climbed room =
+    one-value f a top x climbed (climb f top steps (f x))
+    (λ moves. climb-goes-on f mono a top steps (f x) (climbed-more f mono a x climbed moves) (omega (arith, climbed .rises)))
     (ltb top x) refl (fixed f x) refl
 
 -- Climbing from a reaches the least fixed value from a to the top, and none where there is none.
 pub climb-reaches : (f : ℕ → ℕ) → Monotone f → (a top : ℕ) → a ≤ f a
     → climb f top (top + 1 - a) a ≡ least (fixed f) a (top + 1 - a)
-climb-reaches f mono a top rises =
-    searched-unique (fixed f) a (top + 1 - a) (climb f top (top + 1 - a) a) (least (fixed f) a (top + 1 - a))
-    (climbed f mono a top (top + 1 - a) a (le-refl a) (omega arith) rises (λ z from below own. absurd (omega arith)))
-    (least-means (fixed f) a (top + 1 - a))
+climb-reaches f mono a top rises = climb-goes-on f mono a top (top + 1 - a) a (climbed-first f a rises) (omega arith)

@@ -61,6 +61,15 @@ term-within f (suc n) k here =
     ⊎-elim (λ (last : k ≡ n). rw last (omega arith)) (λ (before : k < n). omega (arith, term-within f n k before))
     (eq-or-lt-of-le (le-of-suc-le-suc here))
 
+-- The sum over fewer places is no larger.
+pub total-fewer : (f : ℕ → ℕ) (k n : ℕ) → k ≤ n → total f k ≤ total f n
+unfolding total
+total-fewer f k zero fewer = let none : k ≡ 0 = omega arith in rw none (le-refl 0)
+total-fewer f k (suc n) fewer =
+    ⊎-elim (λ (all : k ≡ suc n). rw all (le-refl (total f n + f n)))
+    (λ (less : k < suc n). omega (arith, total-fewer f k n (le-of-suc-le-suc less)))
+    (eq-or-lt-of-le fewer)
+
 -- A sum of terms within a limit is within that many times the limit.
 pub total-within : (f : ℕ → ℕ) (limit n : ℕ) → ((i : ℕ) → i < n → f i ≤ limit) → total f n ≤ n * limit
 unfolding total

@@ -11,11 +11,11 @@ use borrow.Author.Tests.{eqb-true, eqb-false, eq-eqb, ne-eqb, leb-true, leb-fals
 use lib.Dec.{leb, eqb}
 use Rattle.laws.specs.Choice.{pick, Better}
 use Rattle.laws.specs.Search.{least, First, Nothing, Searched}
-use Rattle.laws.specs.Climb.{fixed, Passed, climb}
+use Rattle.laws.specs.Climb.{fixed, climb}
 use Rattle.laws.specs.Fill.{Below}
 use Rattle.laws.proofs.Choice.{pick-yes, pick-no}
 use Rattle.laws.proofs.Search.{least-means, least-fixed}
-use Rattle.laws.proofs.Climb.{climb-reaches, climb-passes, fixed-below}
+use Rattle.laws.proofs.Climb.{Climbed, climbed-found, climbed-past, climb-reaches, fixed-below}
 use Rattle.model.specs.Sheet.{Sheet}
 use Rattle.model.specs.Interference.{bclValue, rtaRight}
 use Rattle.model.specs.Answer.{Method, BCL, RTA, methodOf, bclAnswer, rtaAnswer, answer, Response, NoResponse, Formula, Answers}
@@ -101,46 +101,16 @@ module _ (s : Sheet) (m k : ℕ) (R : List ℕ) where
       lies BCL h = (rw (h .value) (bclValue-from-cost s m k R), h .by-deadline)
       lies RTA h = (h .from-cost, h .by-deadline)
 
--- Where a climb from the cost stands: within the deadline, not above its value, and with no solution passed.
-pub record Climbing (s : Sheet) (m k : ℕ) (R : List ℕ) (x : ℕ) : Type 0 where
-  pub from-cost : s .cost k ≤ x
-  pub by-deadline : x ≤ s .deadline k
-  pub rises : x ≤ rtaRight s m k R x
-  pub passed : Passed (rtaRight s m k R) (s .cost k) x
+-- A climb from the cost that stands at its own value, within the deadline, has found RTA's answer.
+pub climb-found : (s : Sheet) (m k : ℕ) (R : List ℕ) (x : ℕ) → Climbed (rtaRight s m k R) (s .cost k) x → x ≤ s .deadline k
+    → x ≡ rtaRight s m k R x → rtaAnswer s m k R ≡ some x
+unfolding rtaAnswer
+climb-found s m k R x climbed within own =
+    climbed-found (rtaRight s m k R) (s .cost k) (s .deadline k + 1 - s .cost k) x climbed own (omega (arith, climbed .from))
 
--- It starts at the cost.
-pub climb-start : (s : Sheet) (m k : ℕ) (R : List ℕ) → s .cost k ≤ s .deadline k → Climbing s m k R (s .cost k)
-climb-start s m k R sized =
-    record {
-      from-cost = le-refl (s .cost k);
-      by-deadline = sized;
-      rises = rtaRight-from-cost s m k R (s .cost k);
-      passed = λ z from below own. absurd (omega arith);
-    }
-
-module _ (s : Sheet) (m k : ℕ) (R : List ℕ) (x : ℕ) (climbing : Climbing s m k R x) where
-  -- At a number that is its own value it has found the answer.
-  pub climb-found : x ≡ rtaRight s m k R x → rtaAnswer s m k R ≡ some x
-  unfolding answer
-  climb-found own =
-      answer-fixed s m k R RTA (some x)
-      (record { from-cost = climbing .from-cost; by-deadline = climbing .by-deadline; solves = own; lowest = climbing .passed })
-
-  -- Any other number is left for its value, past which there is still no solution.
-  moved-on : (x ≡ rtaRight s m k R x → ⊥) → Passed (rtaRight s m k R) (s .cost k) (rtaRight s m k R x)
-  moved-on moves = climb-passes (rtaRight s m k R) (rtaRight-rises s m k R) (s .cost k) x (climbing .passed) moves
-
-  -- With its value above the deadline there is none.
-  pub climb-none : (x ≡ rtaRight s m k R x → ⊥) → s .deadline k < rtaRight s m k R x → rtaAnswer s m k R ≡ none
-  unfolding answer
-  climb-none moves over = answer-fixed s m k R RTA none (λ y low high own. moved-on moves y low (omega arith) own)
-
-  -- Else it goes on from the value, which is higher.
-  pub climb-on : (x ≡ rtaRight s m k R x → ⊥) → rtaRight s m k R x ≤ s .deadline k → Climbing s m k R (rtaRight s m k R x)
-  climb-on moves within =
-      record {
-        from-cost = rtaRight-from-cost s m k R x;
-        by-deadline = within;
-        rises = rtaRight-rises s m k R x (rtaRight s m k R x) (climbing .rises);
-        passed = moved-on moves;
-      }
+-- One that has passed the deadline shows that there is none.
+pub climb-none : (s : Sheet) (m k : ℕ) (R : List ℕ) (x : ℕ) → Climbed (rtaRight s m k R) (s .cost k) x → s .deadline k < x
+    → rtaAnswer s m k R ≡ none
+unfolding rtaAnswer
+climb-none s m k R x climbed past =
+    climbed-past (rtaRight s m k R) (s .cost k) (s .deadline k + 1 - s .cost k) x climbed (omega (arith, climbed .from))

@@ -1,5 +1,5 @@
 -- The checks in number order, taken apart: a refusal with number 0 failed every test, and where every test fails there is none.
-use mathlib.Core.Path.{_≡_, refl, sym, _∙_, ap}
+use mathlib.Core.Path.{_≡_, refl, _∙_, ap}
 use mathlib.Core.Bool.{Bool, true, false, not, _||_}
 use mathlib.Core.List.{List}
 use mathlib.Core.Option.{Option, none, some}
@@ -117,14 +117,15 @@ pub first-of-none : (first second : ℕ) → first ≡ 0 → second ≡ 0 → fi
 unfolding firstOf
 first-of-none first second first-zero second-zero = pick-yes _ _ _ (eq-eqb first 0 first-zero) ∙ second-zero
 
+-- What gives 0 and not a refusal's number is allowed.
+pub allowed-by-zero : (allowed : Bool) (number : ℕ) → (number ≡ 0 → ⊥) → pick allowed 0 number ≡ 0 → allowed ≡ true
+allowed-by-zero true number numbered zero = refl
+allowed-by-zero false number numbered zero = absurd (numbered zero)
+
 -- The processors are not refused exactly if they are allowed.
 pub processors-allowed : (m : ℕ) → processorsRefusal m ≡ 0 → processorsAllowed m ≡ true
 unfolding processorsRefusal
-processors-allowed m zero = split (processorsAllowed m) zero
-  where
-    split : (b : Bool) → _≡_ {A = ℕ} (pick b 0 4) 0 → b ≡ true
-    split true zero = refl
-    split false zero = absurd (omega arith)
+processors-allowed m zero = allowed-by-zero (processorsAllowed m) 4 (λ four. omega arith) zero
 
 pub allowed-processors : (m : ℕ) → processorsAllowed m ≡ true → processorsRefusal m ≡ 0
 unfolding processorsRefusal

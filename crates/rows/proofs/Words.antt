@@ -28,7 +28,7 @@ pub period-word : (words : List ℕ) (k : ℕ) → (sheetOf words) .period k ≡
 unfolding sheetOf triples
 period-word words k = refl
 
--- A place as the code says it, the other way round: found is some place, nowhere is none.
+-- The same read back: at a number is some number, nowhere is none.
 pub found-some : (o : Option ℕ) (k : ℕ) → foundOf o ≡ At k → o ≡ some k
 unfolding foundOf
 found-some none k same = let never : _≡_ {A = ℕ} 0 1 = cc in absurd (omega arith)

@@ -1,9 +1,9 @@
 -- Refusal numbers. Checks are made in number order; the first that holds is given. Number 0 is no refusal, and place is 0 unless stated.
-use mathlib.Core.Bool.{Bool, not, _||_}
+use mathlib.Core.Bool.{Bool, not, _&&_, _||_}
 use mathlib.Core.List.{List}
 use mathlib.Core.Option.{Option, none, some}
 use Prim.Native.Nat.{ℕ, _%_}
-use lib.Dec.{eqb, ltb}
+use lib.Dec.{eqb, leb, ltb}
 use lib.ListN.{length}
 use Rattle.laws.specs.Choice.{pick}
 use Rattle.model.specs.Sheet.{processorsAllowed}
@@ -25,6 +25,10 @@ notRows words = eqb (length words) 0 || not (eqb (length words % 3) 0)
 -- More than 64 rows.
 unfoldable pub tooMany : List ℕ → Bool
 tooMany words = ltb 64 (rowCount words)
+
+-- The number of a refusal where a value does not lie from 1 to the most allowed, else 0.
+unfoldable pub rangeRefusal : ℕ → ℕ → ℕ → ℕ
+rangeRefusal value most number = pick (leb 1 value && leb value most) 0 number
 
 -- 4: processors 0 or above 64.
 unfoldable pub processorsRefusal : ℕ → ℕ

@@ -25,7 +25,7 @@ outside s k = not (rowAllowedAt s k)
 unfoldable pub firstOutside : Sheet → Option ℕ
 firstOutside s = least (outside s) 0 (s .rows)
 
--- A place that may be missing, as the code says it.
+-- A number that may be missing, as the code says it.
 unfoldable pub foundOf : Option ℕ → Found
 foundOf none = Nowhere
 foundOf (some k) = At k

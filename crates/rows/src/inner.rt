@@ -4,7 +4,7 @@ use crate::deadline;
 use crate::period;
 use crate::row_count;
 ghost use mathlib.Core.Path.{_≡_};
-ghost use lib.ListN.{length, getD};
+ghost use lib.ListN.{getD};
 ghost use Rattle.model.specs.Sheet.{rowAllowed, rowAllowedAt};
 ghost use Rattle.rows.specs.Words.{sheetOf};
 ghost use Rattle.rows.specs.Inner.{shapeRefusal};

@@ -5,12 +5,11 @@ use inner::row_allowed_at;
 use inner::shape_refusal;
 use inner::word_at;
 ghost use mathlib.Core.Path.{_≡_};
-ghost use lib.ListN.{length};
 ghost use Rattle.model.specs.Sheet.{triples};
 ghost use Rattle.rows.specs.Words.{rowCount, sheetOf, foundOf, firstOutside};
-ghost use Rattle.rows.specs.Checks.{processorsRefusal, roomRefusal, firstOf, wordsRefusal};
+ghost use Rattle.rows.specs.Checks.{rangeRefusal, processorsRefusal, roomRefusal, firstOf, wordsRefusal};
 
-// The place of a row, or that there is none.
+// What a search found: a place or a length, or that there is none.
 pub enum Found {
     At(u32),
     Nowhere,
@@ -64,17 +63,24 @@ pub fn first_outside(words: &[u32], count: u32) -> Found
     Found::Nowhere
 }
 
+// The number of a refusal where the value is 0 or above the most allowed, else 0.
+pub fn range_refusal(value: u32, most: u32, number: u32) -> u32
+    ensures { λ r. ⌜ r ≡ rangeRefusal value most number ⌝ }
+{
+    if value < 1 {
+        return number;
+    }
+    if most < value {
+        return number;
+    }
+    0
+}
+
 // 4 where the processors are 0 or above 64, else 0.
 pub fn processors_refusal(processors: u32) -> u32
     ensures { λ r. ⌜ r ≡ processorsRefusal processors ⌝ }
 {
-    if processors < 1 {
-        return 4;
-    }
-    if 64 < processors {
-        return 4;
-    }
-    0
+    range_refusal(processors, 64, 4)
 }
 
 // 7 where the output space is shorter than the answer, else 0.

@@ -1,0 +1,6 @@
+pub mod Row
+pub mod Busy
+pub mod Looked
+pub mod Sound
+pub mod Checked
+pub mod Promised

@@ -1,0 +1,142 @@
+-- From one deadline to the next. Demand changes only at deadlines, so a length that does not miss clears every length up to the next
+-- deadline of any row; and no miss up to the busy length is no miss at all.
+use mathlib.Core.Path.{_≡_, refl, sym, _∙_, ap}
+use mathlib.Core.Logic.{_⊎_, ⊎-elim}
+use mathlib.Core.Option.{Option, none, some}
+use Prim.Native.Nat.{ℕ, _+_, _*_, _≤_, _<_, min}
+use native.Mathlib.Nat.{le-refl, le-trans}
+use native.Mathlib.Omega.{arith}
+use borrow.Author.Count.{below-more}
+use borrow.Author.Tests.{le-ltb, eqb-true}
+use lib.Dec.{ltb, eqb}
+use Rattle.laws.specs.Choice.{orElse}
+use Rattle.laws.specs.Sum.{total}
+use Rattle.laws.specs.Search.{Searched}
+use Rattle.laws.proofs.Order.{below-or-from}
+use Rattle.laws.proofs.Sum.{total-step, total-same, total-fewer}
+use Rattle.laws.proofs.Search.{least-means, least-fixed}
+use Rattle.model.specs.Sheet.{Sheet}
+use Rattle.model.specs.Demand.{demandOf, demand, busy, busyLength, firstMiss, judged, verdict}
+use Rattle.model.proofs.Demand.{never-misses}
+use Rattle.rows.specs.Words.{foundOf}
+use Rattle.demand.specs.Inner.{furthest}
+use Rattle.demand.proofs.Row.{nextDue, due-ahead, jobs-demand, jobs-same}
+
+-- The first rows, looked at in length t: their demand, which does not exceed t, and a length behind t, at most one behind the last, before
+-- which none of them has a deadline.
+pub record Looked (s : Sheet) (last t row sum next : ℕ) : Type 0 where
+  pub counted : sum ≡ total (demandOf s t) row
+  pub within : sum ≤ t
+  pub ahead : t < next
+  pub upto : next ≤ last + 1
+  pub quiet : (i : ℕ) → i < row → next ≤ nextDue (s .deadline i) (s .period i) t
+
+-- Every length before t is clear, and t is one to look at.
+pub record Cleared (s : Sheet) (last t : ℕ) : Type 0 where
+  pub positive : 1 ≤ t
+  pub within : t ≤ last
+  pub lowest : (u : ℕ) → 1 ≤ u → u < t → demand s u ≤ u
+
+-- Before length 1 there is nothing to clear.
+pub cleared-first : (s : Sheet) (last : ℕ) → 1 ≤ last → Cleared s last 1
+cleared-first s last some-length = record { positive = omega arith; within = some-length; lowest = λ u from below. absurd (omega arith) }
+
+-- The last length to look at, as the code finds it.
+pub furthest-found : (b : Option ℕ) (h : ℕ) → furthest (foundOf b) h ≡ orElse b h
+unfolding furthest foundOf
+furthest-found none h = refl
+furthest-found (some b) h = refl
+
+-- The busy length, or else the horizon, lies from 1 to the horizon.
+pub last-within : (s : Sheet) (h : ℕ) → 1 ≤ h → (1 ≤ orElse (busyLength s h) h) × (orElse (busyLength s h) h ≤ h)
+unfolding busyLength
+last-within s h some-length = found (busyLength s h) (least-means (λ t. eqb t (busy s t)) 1 h)
+  where
+    found : (b : Option ℕ) → Searched (λ t. eqb t (busy s t)) 1 h b → (1 ≤ orElse b h) × (orElse b h ≤ h)
+    found none searched = (some-length, le-refl h)
+    found (some b) searched = let inside : b < 1 + h = searched .inside in (searched .from, omega arith)
+
+-- No row looked at.
+pub looked-none : (s : Sheet) (last t : ℕ) → t ≤ last → Looked s last t 0 0 (last + 1)
+unfolding total
+looked-none s last t within =
+    record {
+      counted = refl;
+      within = omega arith;
+      ahead = omega arith;
+      upto = omega arith;
+      quiet = λ i below. absurd (omega arith);
+    }
+
+-- One row more, whose demand still fits.
+pub looked-more : (s : Sheet) (last t row sum next : ℕ) → 1 ≤ s .period row → Looked s last t row sum next
+    → sum + demandOf s t row ≤ t
+    → Looked s last t (row + 1) (sum + demandOf s t row) (min next (nextDue (s .deadline row) (s .period row) t))
+looked-more s last t row sum next positive looked fits =
+    let due : ℕ = nextDue (s .deadline row) (s .period row) t in
+    let ahead : t < next = looked .ahead in
+    let upto : next ≤ last + 1 = looked .upto in
+    record {
+      counted = rw (total-step, ← looked .counted);
+      within = fits;
+      ahead = omega (arith, due-ahead (s .deadline row) (s .period row) t positive);
+      upto = omega arith;
+      quiet =
+          below-more (λ i. min next due ≤ nextDue (s .deadline i) (s .period i) t) row
+          (λ i below. le-trans (omega arith) (looked .quiet i below)) (omega arith);
+    }
+
+-- A sum that exceeds the length, whichever rows are left, is a miss.
+pub looked-over : (s : Sheet) (last t row sum next : ℕ) → Looked s last t row sum next → row < s .rows
+    → t < sum + demandOf s t row → t < demand s t
+unfolding demand
+looked-over s last t row sum next looked here over =
+    let counted : sum ≡ total (demandOf s t) row = looked .counted in
+    omega (arith, total-step (demandOf s t) row, total-fewer (demandOf s t) (row + 1) (s .rows) (omega arith))
+
+module _ (s : Sheet) (positive : (i : ℕ) → i < s .rows → 1 ≤ s .period i) where
+  -- Demand is the same up to the next deadline.
+  demand-same : (t u next : ℕ) → t ≤ u → u < next → ((i : ℕ) → i < s .rows → next ≤ nextDue (s .deadline i) (s .period i) t)
+      → demand s u ≡ demand s t
+  unfolding demand demandOf
+  demand-same t u next later below quiet =
+      total-same (demandOf s u) (demandOf s t) (s .rows)
+      (λ i here.
+      let before : u < nextDue (s .deadline i) (s .period i) t = le-trans below (quiet i here) in
+      jobs-demand (s .cost i) (s .deadline i) (s .period i) u
+      ∙ ap (λ (jobs : ℕ). jobs * s .cost i) (jobs-same (s .deadline i) (s .period i) t u (positive i here) later before)
+      ∙ sym (jobs-demand (s .cost i) (s .deadline i) (s .period i) t))
+
+  -- All rows looked at in a clear length: every length before the next is clear.
+  pub clear-below : (last t sum next : ℕ) → Cleared s last t → Looked s last t (s .rows) sum next
+      → (u : ℕ) → 1 ≤ u → u < next → demand s u ≤ u
+  unfolding demand
+  clear-below last t sum next cleared looked u from below =
+      ⊎-elim (λ (before : u < t). cleared .lowest u from before)
+      (λ (later : t ≤ u).
+      let counted : sum ≡ demand s t = looked .counted in
+      let within : sum ≤ t = looked .within in
+      omega (arith, demand-same t u next later below (looked .quiet)))
+      (below-or-from u t)
+
+  -- The next length to look at.
+  pub cleared-next : (last t sum next : ℕ) → Cleared s last t → Looked s last t (s .rows) sum next → next ≤ last → Cleared s last next
+  cleared-next last t sum next cleared looked within =
+      let ahead : t < next = looked .ahead in
+      let from : 1 ≤ t = cleared .positive in
+      record { positive = omega arith; within = within; lowest = clear-below last t sum next cleared looked }
+
+  -- No miss up to the busy length is no miss.
+  clean : (h : ℕ) (b : Option ℕ) → Searched (λ t. eqb t (busy s t)) 1 h b → ((u : ℕ) → 1 ≤ u → u ≤ orElse b h → demand s u ≤ u)
+      → (u : ℕ) → 1 ≤ u → u ≤ h → demand s u ≤ u
+  clean h none searched early u from upto = early u from upto
+  clean h (some b) searched early u from upto = never-misses s positive b (searched .from) (eqb-true _ _ (searched .passes)) early u from
+
+  -- With no miss up to the busy length, or else the horizon, the busy length decides.
+  pub clean-verdict : (h : ℕ) → ((u : ℕ) → 1 ≤ u → u ≤ orElse (busyLength s h) h → demand s u ≤ u)
+      → verdict s h ≡ judged none (busyLength s h)
+  unfolding verdict firstMiss busyLength
+  clean-verdict h early =
+      ap (λ (r : Option ℕ). judged r (busyLength s h))
+      (least-fixed (λ t. ltb t (demand s t)) 1 h none
+      (λ u from below. le-ltb _ _ (clean h (busyLength s h) (least-means (λ t. eqb t (busy s t)) 1 h) early u from (omega arith))))

@@ -1,0 +1,65 @@
+-- What sound words give each inner function: as many rows as were counted, each with its sizes.
+use mathlib.Core.Path.{_≡_, sym, _∙_}
+use mathlib.Core.List.{List}
+use Prim.Native.Nat.{ℕ, _+_, _≤_, _<_}
+use native.Mathlib.Nat.{le-antisymm, le-trans}
+use native.Mathlib.Omega.{arith}
+use Rattle.laws.specs.Sum.{total}
+use Rattle.laws.proofs.Sum.{total-within}
+use Rattle.model.specs.Demand.{busyOf, busy}
+use Rattle.model.proofs.Sheet.{SizedRow, periods-positive}
+use Rattle.rows.specs.Words.{rowCount, sheetOf}
+use Rattle.rows.proofs.Words.{sheet-rows}
+use Rattle.rows.proofs.Checks.{sound-row}
+use Rattle.demand.specs.Inner.{Given}
+use Rattle.demand.proofs.Busy.{busy-rises, busy-small}
+
+module _ (words : List ℕ) (count length : ℕ) (given : Given words count length) where
+  -- The rows counted are the sheet's.
+  counted : count ≡ (sheetOf words) .rows
+  counted = given .counted ∙ sym (sheet-rows words)
+
+  -- A row below the count is the sheet's, and a loop that has passed all rows counted has passed the sheet's.
+  pub inside : (row : ℕ) → row < count → row < (sheetOf words) .rows
+  inside row here = rw counted at here
+
+  pub all-passed : (row : ℕ) → row ≤ count → count ≤ row → row ≡ (sheetOf words) .rows
+  all-passed row upto from = le-antisymm upto from ∙ counted
+
+  -- Each row has its sizes.
+  pub sized : (row : ℕ) → row < count → SizedRow ((sheetOf words) .cost row) ((sheetOf words) .deadline row) ((sheetOf words) .period row)
+  sized row here = sound-row words (given .sound) row (rw (← given .counted) here)
+
+  -- Each period is at least 1.
+  pub positive : (row : ℕ) → row < (sheetOf words) .rows → 1 ≤ (sheetOf words) .period row
+  positive = periods-positive (sheetOf words) (given .sound .allowed)
+
+  -- Each row adds at most 17,777,216 to the busy sum.
+  busy-each : (row : ℕ) → row < count → busyOf (sheetOf words) length row ≤ 17_777_216
+  unfolding busyOf
+  busy-each row here =
+      let sizes = sized row here in
+      let within : length ≤ 16_777_216 = given .within in
+      omega (arith, busy-small ((sheetOf words) .cost row) ((sheetOf words) .period row) length (omega arith))
+
+  -- So the sum over at most 64 rows stays small.
+  pub busy-sum-small : (row : ℕ) → row < count
+      → total (busyOf (sheetOf words) length) row + busyOf (sheetOf words) length row ≤ 1_137_741_824
+  busy-sum-small row here =
+      let most : rowCount words ≤ 64 = given .sound .at-most in
+      omega (
+        arith,
+        given .counted,
+        busy-each row here,
+        total-within (busyOf (sheetOf words) length) 17_777_216 row (λ i below. busy-each i (le-trans below (lt-le here))),
+      )
+    where
+      lt-le : {a b : ℕ} → a < b → a ≤ b
+      lt-le h = omega arith
+
+  -- Length 1 is not above its busy sum: there is a row.
+  pub busy-from-one : 1 ≤ busy (sheetOf words) 1
+  busy-from-one =
+      let some-rows : 0 < count = omega (arith, given .counted, given .sound .one-or-more) in
+      let first = sized 0 some-rows in
+      busy-rises (sheetOf words) 0 (inside 0 some-rows) (first .positive) (omega arith)

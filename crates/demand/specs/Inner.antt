@@ -1,0 +1,32 @@
+-- What only inner functions cite: no user need believe it.
+use mathlib.Core.Path.{_≡_}
+use mathlib.Core.List.{List}
+use Prim.Native.Nat.{ℕ, _+_, _-_, _/_, _≤_}
+use lib.Dec.{ltb}
+use Rattle.laws.specs.Choice.{pick}
+use Rattle.model.specs.Demand.{busyLength}
+use Rattle.rows.specs.declared.Found.{Found}
+use Rattle.rows.specs.declared.Found.the-variants.{At, Nowhere}
+use Rattle.rows.specs.Words.{rowCount, sheetOf, foundOf}
+use Rattle.rows.specs.Inner.{SoundRows}
+
+-- Sound words, how many rows they hold, and a length that no horizon allowed exceeds.
+pub record Given (words : List ℕ) (count length : ℕ) : Type 0 where
+  pub sound : SoundRows words
+  pub counted : count ≡ rowCount words
+  pub within : length ≤ 16_777_216
+
+-- The same with a horizon of at least 1 and the busy length, if it is within it.
+pub record BusyGiven (words : List ℕ) (count horizon : ℕ) (busy : Found) : Type 0 where
+  pub given : Given words count horizon
+  pub from-one : 1 ≤ horizon
+  pub climbed : busy ≡ foundOf (busyLength (sheetOf words) horizon)
+
+-- The jobs of a row with deadline d and period p that are due within t.
+unfoldable pub jobsWithin : ℕ → ℕ → ℕ → ℕ
+jobsWithin d p t = pick (ltb t d) 0 ((t - d) / p + 1)
+
+-- The last length to look at: the busy length, else the horizon.
+unfoldable pub furthest : Found → ℕ → ℕ
+furthest (At b) horizon = b
+furthest Nowhere horizon = horizon

@@ -1,0 +1,2 @@
+pub mod OneProcessor
+pub mod Inner

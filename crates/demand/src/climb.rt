@@ -1,0 +1,39 @@
+// The busy length, climbed from 1: each length that is not its own busy sum is replaced by that sum.
+use rows::Found;
+use rows::cost;
+use rows::period;
+ghost use mathlib.Core.Path.{_≡_};
+ghost use Rattle.model.specs.Demand.{busy, busyLength};
+ghost use Rattle.rows.specs.Words.{sheetOf, foundOf};
+ghost use Rattle.demand.specs.Inner.{Given};
+
+// The sum of ceil(length / T) × C.
+pub(crate) fn busy_sum(words: &[u32], count: u32, length: u32) -> u32
+    requires { ⌜ Given (now words) count length ⌝ }
+    ensures { λ r. ⌜ r ≡ busy (sheetOf (now (words .entry))) length ⌝ }
+{
+    let mut sum = 0;
+    let mut row = 0;
+    while row < count {
+        let period = period(words, row);
+        sum += (length + period - 1) / period * cost(words, row);
+        row += 1;
+    }
+    sum
+}
+
+// The busy length, if it is within the horizon.
+pub(crate) fn busy_length(words: &[u32], count: u32, horizon: u32) -> Found
+    requires { ⌜ Given (now words) count horizon ⌝ }
+    ensures { λ r. ⌜ r ≡ foundOf (busyLength (sheetOf (now (words .entry))) horizon) ⌝ }
+{
+    let mut length = 1;
+    while length <= horizon {
+        let sum = busy_sum(words, count, length);
+        if sum == length {
+            return Found::At(length);
+        }
+        length = sum;
+    }
+    Found::Nowhere
+}
