@@ -21,12 +21,12 @@ use Rattle.rows.specs.declared.Found.{Found}
 use Rattle.rows.specs.declared.Found.the-variants.{At, Nowhere}
 use Rattle.rows.specs.declared.Refusal.{Refusal}
 use Rattle.rows.specs.Words.{rowCount, sheetOf, foundOf}
-use Rattle.rows.specs.Checks.{refused, notRefused, processorsRefusal, firstOf, wordsRefusal}
+use Rattle.rows.specs.Checks.{refused, notRefused, processorsRefusal, methodRefusal, firstOf, wordsRefusal}
 use Rattle.rows.specs.Inner.{SoundRows}
 use Rattle.rows.proofs.Words.{sheet-rows}
 use Rattle.rows.proofs.Checks as checks
 use Rattle.analysis.specs.declared.OneRow.{OneRow}
-use Rattle.analysis.specs.Question.{methodRefusal, boundAllowed, questionAllowed, questionRefusal, oneRowRefusal, oneRow, answerOf, OneRowPromise}
+use Rattle.analysis.specs.Question.{boundAllowed, questionAllowed, questionRefusal, oneRowRefusal, oneRow, answerOf, OneRowPromise}
 use Rattle.analysis.specs.Inner.{Ready}
 
 -- A method that is not refused is 0 or 1.

@@ -11,12 +11,11 @@ use Rattle.model.specs.Refine.{Ask, deadlines, marks}
 use Rattle.model.proofs.Sheet.{allowed-processors}
 use Rattle.rows.specs.declared.Refusal.{Refusal}
 use Rattle.rows.specs.Words.{rowCount, sheetOf}
-use Rattle.rows.specs.Checks.{processorsRefusal, roomRefusal, firstOf, wordsRefusal}
+use Rattle.rows.specs.Checks.{processorsRefusal, methodRefusal, roomRefusal, firstOf, wordsRefusal}
 use Rattle.rows.specs.Inner.{SoundRows}
 use Rattle.rows.proofs.Words.{sheet-rows}
 use Rattle.rows.proofs.Checks as checks
 use Rattle.analysis.specs.declared.Refined.{Refined}
-use Rattle.analysis.specs.Question.{methodRefusal}
 use Rattle.analysis.specs.Refinement.{askOf, refineRefusal, Engine, finalBounds, refined, refinedWords}
 use Rattle.analysis.specs.Inner.{Ready}
 

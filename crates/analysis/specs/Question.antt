@@ -14,12 +14,8 @@ use Rattle.rows.specs.declared.Found.{Found}
 use Rattle.rows.specs.declared.Found.the-variants.{At, Nowhere}
 use Rattle.rows.specs.declared.Refusal.{Refusal}
 use Rattle.rows.specs.Words.{sheetOf, foundOf}
-use Rattle.rows.specs.Checks.{refused, notRefused, processorsRefusal, firstOf, wordsRefusal}
+use Rattle.rows.specs.Checks.{refused, notRefused, processorsRefusal, methodRefusal, firstOf, wordsRefusal}
 use Rattle.analysis.specs.declared.OneRow.{OneRow}
-
--- 5: method above 1.
-unfoldable pub methodRefusal : ℕ → ℕ
-methodRefusal method = pick (ltb 1 method) 5 0
 
 -- A bound lies from its row's cost to its deadline.
 unfoldable pub boundAllowed : Sheet → List ℕ → ℕ → Bool

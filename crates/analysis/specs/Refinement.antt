@@ -11,9 +11,8 @@ use Rattle.model.specs.Answer.{methodOf, answer}
 use Rattle.model.specs.Refine.{Ask, rounds, atOnce, marked, marks, Largest}
 use Rattle.rows.specs.declared.Refusal.{Refusal}
 use Rattle.rows.specs.Words.{rowCount, sheetOf}
-use Rattle.rows.specs.Checks.{processorsRefusal, roomRefusal, firstOf, wordsRefusal}
+use Rattle.rows.specs.Checks.{processorsRefusal, methodRefusal, roomRefusal, firstOf, wordsRefusal}
 use Rattle.analysis.specs.declared.Refined.{Refined}
-use Rattle.analysis.specs.Question.{methodRefusal}
 
 -- The one-row answer that words, processors and method number ask for.
 unfoldable pub askOf : List ℕ → ℕ → ℕ → Ask

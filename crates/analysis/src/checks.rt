@@ -3,6 +3,7 @@ use rows::Refusal;
 use rows::cost;
 use rows::deadline;
 use rows::first_of;
+use rows::method_refusal;
 use rows::processors_refusal;
 use rows::room_refusal;
 use rows::row_count;
@@ -12,15 +13,8 @@ ghost use Prim.Native.Nat.{_≤_, _<_};
 ghost use lib.ListN.{length};
 ghost use Rattle.laws.specs.Bits.{every};
 ghost use Rattle.rows.specs.Words.{rowCount, sheetOf};
-ghost use Rattle.analysis.specs.Question.{methodRefusal, boundAllowed, questionAllowed, oneRowRefusal};
+ghost use Rattle.analysis.specs.Question.{boundAllowed, questionAllowed, oneRowRefusal};
 ghost use Rattle.analysis.specs.Refinement.{refineRefusal};
-
-// 5 where the method is above 1, else 0.
-pub(crate) fn method_refusal(method: u32) -> u32
-    ensures { λ r. ⌜ r ≡ methodRefusal method ⌝ }
-{
-    if 1 < method { 5 } else { 0 }
-}
 
 // Whether the bound of a row lies from its cost to its deadline.
 pub(crate) fn bound_allowed(words: &[u32], bounds: &[u32], row: u32) -> bool

@@ -34,6 +34,10 @@ rangeRefusal value most number = pick (leb 1 value && leb value most) 0 number
 unfoldable pub processorsRefusal : ℕ → ℕ
 processorsRefusal processors = pick (processorsAllowed processors) 0 4
 
+-- 5: method above 1.
+unfoldable pub methodRefusal : ℕ → ℕ
+methodRefusal method = pick (ltb 1 method) 5 0
+
 -- 7: output space shorter than the answer.
 unfoldable pub roomRefusal : ℕ → ℕ → ℕ
 roomRefusal room need = pick (ltb room need) 7 0

@@ -7,7 +7,7 @@ use inner::word_at;
 ghost use mathlib.Core.Path.{_≡_};
 ghost use Rattle.model.specs.Sheet.{triples};
 ghost use Rattle.rows.specs.Words.{rowCount, sheetOf, foundOf, firstOutside};
-ghost use Rattle.rows.specs.Checks.{rangeRefusal, processorsRefusal, roomRefusal, firstOf, wordsRefusal};
+ghost use Rattle.rows.specs.Checks.{rangeRefusal, processorsRefusal, methodRefusal, roomRefusal, firstOf, wordsRefusal};
 
 // What a search found: a place or a length, or that there is none.
 pub enum Found {
@@ -81,6 +81,13 @@ pub fn processors_refusal(processors: u32) -> u32
     ensures { λ r. ⌜ r ≡ processorsRefusal processors ⌝ }
 {
     range_refusal(processors, 64, 4)
+}
+
+// 5 where the method is above 1, else 0.
+pub fn method_refusal(method: u32) -> u32
+    ensures { λ r. ⌜ r ≡ methodRefusal method ⌝ }
+{
+    if 1 < method { 5 } else { 0 }
 }
 
 // 7 where the output space is shorter than the answer, else 0.

@@ -3,9 +3,8 @@ use borrow.Author.Needs.{needs}
 use mathlib.Core.Path.{_≡_, sym, _∙_, ap}
 use denote.Ref.{now}
 use Rattle.rows.specs.declared.Refusal.{Refusal}
-use Rattle.rows.specs.Checks.{processorsRefusal, firstOf, wordsRefusal}
+use Rattle.rows.specs.Checks.{processorsRefusal, methodRefusal, firstOf, wordsRefusal}
 use Rattle.rows.proofs.Checks.{accepted}
-use Rattle.analysis.specs.Question.{methodRefusal}
 use Rattle.analysis.proofs.Question.{first-checks, refused-first, passed-first}
 use Rattle.analysis.proofs.checks.question_refusal.Statement.{statement}
 use Rattle.analysis.proofs.checks.question_refusal.Tie as tie

@@ -5,8 +5,7 @@ use mathlib.Core.List.{List}
 use Prim.Native.Nat.{ℕ}
 use Rattle.rows.specs.declared.Refusal.{Refusal}
 use Rattle.rows.specs.Words.{rowCount}
-use Rattle.rows.specs.Checks.{processorsRefusal, roomRefusal, firstOf, wordsRefusal}
-use Rattle.analysis.specs.Question.{methodRefusal}
+use Rattle.rows.specs.Checks.{processorsRefusal, methodRefusal, roomRefusal, firstOf, wordsRefusal}
 use Rattle.analysis.specs.Refinement.{refineRefusal}
 use Rattle.analysis.proofs.checks.refine_refusal.Statement.{statement}
 use Rattle.analysis.proofs.checks.refine_refusal.Tie as tie

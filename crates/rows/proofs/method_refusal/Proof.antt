@@ -1,10 +1,10 @@
--- `method_refusal` is check 5, by its test.
+-- `rows::method_refusal` meets its contract: its test is the definition's.
 use mathlib.Core.Path.{sym}
 use borrow.Author.Tests.{lt-ltb, le-ltb}
 use Rattle.laws.proofs.Choice.{pick-yes, pick-no}
-use Rattle.analysis.specs.Question.{methodRefusal}
-use Rattle.analysis.proofs.checks.method_refusal.Statement.{statement}
-use Rattle.analysis.proofs.checks.method_refusal.Tie as tie
+use Rattle.rows.specs.Checks.{methodRefusal}
+use Rattle.rows.proofs.method_refusal.Statement.{statement}
+use Rattle.rows.proofs.method_refusal.Tie as tie
 
 returns : tie.Need-returns
 unfolding methodRefusal
