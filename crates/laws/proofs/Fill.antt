@@ -9,7 +9,7 @@ use native.Mathlib.Numerals.{add-one}
 use native.Mathlib.Omega.{arith}
 use borrow.Author.Tests.{eqb-true, eq-eqb}
 use lib.Dec.{eqb}
-use lib.ListN.{length, getD, take, drop, set, length-append, length-drop, List·getD-append}
+use lib.ListN.{length, getD, take, drop, set, length-append, length-drop, drop-of-length-le, List·getD-append}
 use lib.Seq.{getD-append-add, ext-getD, drop-length, drop-cons, set-at, take-all, take-at, drop-at, take-append-le, drop-append-le, drop-drop, getD-at, getD-take, getD-drop, append-snoc}
 use Rattle.laws.proofs.Choice.{never-both, and-left, and-right}
 use Rattle.laws.specs.Sum.{total}
@@ -83,6 +83,20 @@ pub put-block : (front block l : List ℕ) (a k : ℕ) → length front ≡ a �
 put-block front block l a k front-size block-size =
     rw (take-at front (drop a l) a front-size, drop-at front (drop a l) a front-size, drop-drop k a l)
     (sym (append-assoc front block (drop (a + k) l)))
+
+-- A front put over what stood there leaves the length as it was.
+pub front-kept : (front l : List ℕ) (a : ℕ) → length front ≡ a → a ≤ length l → length (front ++ drop a l) ≡ length l
+front-kept front l a size room = length-append front (drop a l) ∙ rw (size, length-drop a l) (omega arith)
+
+-- A front, and a block that fills the rest behind it, are the whole.
+pub front-filled : (front block l : List ℕ) (a k : ℕ) → length front ≡ a → length block ≡ k → length l ≡ a + k
+    → let whole = front ++ drop a l in
+    take a whole ++ (block ++ drop (length whole - a) (drop a whole)) ≡ front ++ block
+front-filled front block l a k front-size block-size full =
+    let rest : length (front ++ drop a l) - a ≡ k = rw (front-kept front l a front-size (omega arith)) (omega arith) in
+    rw rest
+    (put-block front block l a k front-size block-size
+    ∙ rw (drop-of-length-le l {i = a + k} (omega arith)) (append-nil (front ++ block)))
 
 -- Blocks of one size: as many bytes as blocks times the size.
 pub joined-length : (f : ℕ → List ℕ) (k n : ℕ) → ((j : ℕ) → j < n → length (f j) ≡ k) → length (joined f n) ≡ n * k

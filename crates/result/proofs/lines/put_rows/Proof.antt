@@ -1,0 +1,132 @@
+-- One line a row: what stands in front is the rows' lines so far, and each line is put behind them.
+use borrow.Author.Needs.{needs}
+use Prim.Native.Nat.{ℕ, _+_, _*_, _-_, _≤_}
+use mathlib.Core.Path.{_≡_, refl, _∙_, ap}
+use mathlib.Core.List.{_++_}
+use lib.ListN.{length, getD, drop, length-drop}
+use lib.Seq.{length-take-le}
+use Rattle.laws.specs.Fill.{joined}
+use Rattle.sheet.proofs.Lines.{block-joined, blocks-kept, blocks-fill}
+use Rattle.result.specs.Lines.{line, rowLine}
+use Rattle.result.specs.Inner.{lineFrom}
+use Rattle.result.proofs.Text.{row-line-length, rows-length}
+use native.Mathlib.Omega.{arith}
+use Rattle.result.proofs.lines.put_rows.Statement.{statement}
+use Rattle.result.proofs.lines.put_rows.Tie as tie
+
+abbrev Inv-loop : tie.InvT-loop
+Inv-loop marks bounds rows out₀ row₀ out row = (row ≤ rows) × (out ≡ joined (lineFrom marks bounds) row ++ drop (line * row) out₀)
+
+abbrev μ-loop : tie.MeasureT-loop
+μ-loop marks bounds rows out₀ row₀ out row = rows - row
+
+abbrev start : tie.At-loop Inv-loop μ-loop → tie.Start Inv-loop μ-loop
+start c = c .before .before .before
+
+kept : (c : tie.At-loop Inv-loop μ-loop) → length (c .loop .out) ≡ length (start c .args .out .now)
+unfolding line
+kept c =
+    let a = start c .args in
+    blocks-kept (lineFrom (a .marks) (a .bounds .now)) (c .loop .row) (line * c .loop .row) (c .loop .out) (a .out .now)
+    (rows-length (a .marks) (a .bounds .now) (c .loop .row)) (omega (arith, start c .pre .2)) (c .loop .inv .1)
+
+room : (c : tie.In-loop Inv-loop μ-loop) → line * c .before .loop .row + line ≤ length (c .before .loop .out)
+unfolding line
+room c = omega (arith, kept (c .before), start (c .before) .pre .2)
+
+loop-holds : tie.Need-loop-holds Inv-loop μ-loop
+unfolding joined line
+loop-holds c = (omega arith, refl)
+
+cast-start : tie.Need-cast-start Inv-loop μ-loop
+cast-start c = omega arith
+
+mul-start : tie.Need-mul-start Inv-loop μ-loop
+mul-start c = omega arith
+
+add-end : tie.Need-add-end Inv-loop μ-loop
+add-end c = omega arith
+
+sub-put-line : tie.Need-sub-put-line Inv-loop μ-loop
+sub-put-line c = omega arith
+
+part-put-line-start : tie.Need-part-put-line-start Inv-loop μ-loop
+part-put-line-start c = search needs
+
+part-put-line-end : tie.Need-part-put-line-end Inv-loop μ-loop
+unfolding line
+part-put-line-end c = room c
+
+mark-of-requires : tie.Need-mark-of-requires Inv-loop μ-loop
+mark-of-requires c κs = let s = start (c .before .before) in omega (arith, s .pre .0)
+
+cast-put-line : tie.Need-cast-put-line Inv-loop μ-loop
+cast-put-line c = search needs
+
+mul-put-line : tie.Need-mul-put-line Inv-loop μ-loop
+mul-put-line c = let s = start (c .before .before .before) in omega (arith, s .pre .0)
+
+shared-slice-read-put-line : tie.Need-shared-slice-read-put-line Inv-loop μ-loop
+shared-slice-read-put-line c = let s = start (c .before .before .before .before) in omega (arith, s .pre .1)
+
+put-line-requires : tie.Need-put-line-requires Inv-loop μ-loop
+unfolding line
+put-line-requires c κs =
+    let q = c .before .before .before in
+    let at = line * q .before .loop .row in
+    let size : at + line - at ≡ line = omega arith in
+    rw size (length-take-le line (drop at (q .before .loop .out)) (rw length-drop (omega (arith, room q))))
+
+add-row : tie.Need-add-row Inv-loop μ-loop
+add-row c = omega arith
+
+loop-less : tie.Need-loop-less Inv-loop μ-loop
+loop-less c = omega arith
+
+loop-again : tie.Need-loop-again Inv-loop μ-loop
+unfolding line lineFrom rowLine
+loop-again c =
+    let q = c .before .before .before .before .before .before .before in
+    let a = start q .args in
+    let row = q .loop .row in
+    let put : c .before .before .put-line .last .0 ≡ lineFrom (a .marks) (a .bounds .now) row =
+    rw (c .before .before .before .before .mark-of .ensures) at (c .before .before .put-line .ensures) in (
+      omega arith,
+      block-joined (lineFrom (a .marks) (a .bounds .now)) row (line * row) line (line * row + line) (line * (row + 1)) _ (q .loop .out) (a .out .now)
+          (rows-length (a .marks) (a .bounds .now) row) (row-line-length (a .marks) (a .bounds .now) row) refl (omega arith) put (q .loop .inv .1),
+    )
+
+same-length : tie.Need-same-length Inv-loop μ-loop
+same-length c = kept (c .before)
+
+returns : tie.Need-returns Inv-loop μ-loop
+returns c =
+    let s = start (c .before) in
+    let q = c .before .loop in
+    let all : q .row ≡ s .args .rows = omega arith in
+    blocks-fill (lineFrom (s .args .marks) (s .args .bounds .now)) (s .args .rows) (line * s .args .rows) (q .out) (s .args .out .now) (s .pre .2)
+    (rw all at (q .inv .1))
+
+pub put-rows-spec : {M : Type 1} → statement M
+put-rows-spec =
+    tie.close
+    (tie.spec
+    Inv-loop
+    μ-loop
+    loop-holds
+    cast-start
+    mul-start
+    add-end
+    sub-put-line
+    part-put-line-start
+    part-put-line-end
+    mark-of-requires
+    cast-put-line
+    mul-put-line
+    shared-slice-read-put-line
+    put-line-requires
+    add-row
+    loop-less
+    loop-again
+    same-length
+    returns)

@@ -1,0 +1,48 @@
+-- `put_refined` refines into 64 words, which is not refused, and writes what that says.
+use borrow.Author.Needs.{needs}
+use mathlib.Core.Path.{_≡_, _∙_, sym}
+use lib.ListN.{replicate}
+use denote.Ref.{now}
+use Rattle.analysis.proofs.Refinement.{refining}
+use Rattle.result.proofs.Entries.{bound-each, refined-text}
+use native.Mathlib.Omega.{arith}
+use Rattle.result.proofs.put_refined.Statement.{statement}
+use Rattle.result.proofs.put_refined.Tie as tie
+
+slice-aggregate-refine-at-once : tie.Need-slice-aggregate-refine-at-once
+slice-aggregate-refine-at-once c = search needs
+
+refine-at-once-requires : tie.Need-refine-at-once-requires
+refine-at-once-requires c κs = search needs
+
+slice-aggregate-put-result : tie.Need-slice-aggregate-put-result
+slice-aggregate-put-result c = search needs
+
+put-result-requires : tie.Need-put-result-requires
+put-result-requires c κs =
+    let s = c .before .before .before .before .before .before .before in
+    let refined = c .before .before .before .refine-at-once in
+    let each = bound-each (now (s .args .words)) (s .args .processors) (s .args .method) (replicate 64 0) (s .pre .0) _ _ (refined .ensures .0) (refined .ensures .1) in
+    (omega (arith, s .pre .1, refining _ _ _ _ (s .pre .0) .rows .at-most), omega (arith, s .pre .1, each), s .pre .2)
+
+same-length : tie.Need-same-length
+same-length c = search needs
+
+returns : tie.Need-returns
+returns c =
+    let s = c .before .before .before .before .before .before .before .before .before .before in
+    let refined = c .before .before .before .before .before .before .refine-at-once in
+    c .before .before .put-result .ensures
+    ∙ refined-text (now (s .args .words)) (s .args .processors) (s .args .method) (replicate 64 0) (s .pre .0) _ _ (refined .ensures .0) (refined .ensures .1)
+    (s .args .rows) (s .pre .1)
+
+pub put-refined-spec : {M : Type 1} → statement M
+put-refined-spec =
+    tie.close
+    (tie.spec
+    slice-aggregate-refine-at-once
+    refine-at-once-requires
+    slice-aggregate-put-result
+    put-result-requires
+    same-length
+    returns)

@@ -1,0 +1,100 @@
+// The result sheet of rows, and the whole answer to a sheet's bytes.
+mod lines;
+
+use analysis::refine_at_once;
+use rows::Refusal;
+use rows::first_of;
+use rows::method_refusal;
+use rows::processors_refusal;
+use rows::room_refusal;
+use rows::row_count;
+use rows::words_refusal;
+use sheet::Written;
+use sheet::read_sheet;
+ghost use mathlib.Core.Path.{_≡_};
+ghost use lib.ListN.{length};
+ghost use Rattle.rows.specs.Words.{rowCount};
+ghost use Rattle.rows.specs.Checks.{refused, roomRefusal};
+ghost use Rattle.analysis.specs.Refinement.{refineRefusal};
+ghost use Rattle.sheet.specs.Sheets.{writeAnswer, atFront};
+ghost use Rattle.result.specs.Lines.{resultLength, refusalLine};
+ghost use Rattle.result.specs.Result.{resultOf, resultRefusal, writeResult, resultAfter, answerSheet, answerAfter};
+
+// The refusal of writing a result sheet, in number order: 2, 3, 4, 5, 7, 8.
+fn result_refusal(words: &[u32], processors: u32, method: u32, room: usize) -> Refusal
+    ensures { λ r. ⌜ r ≡ resultRefusal (now (words .entry)) processors method room ⌝ }
+{
+    let need = lines::HEAD + lines::LINE * row_count(words);
+    let rest = first_of(method_refusal(method), room_refusal(room, need));
+    words_refusal(words, first_of(processors_refusal(processors), rest))
+}
+
+// Refines the rows at once, and writes their result sheet.
+fn put_refined(words: &[u32], processors: u32, method: u32, rows: u32, out: &mut [u8])
+    requires { ⌜ ((refineRefusal (now words) processors method 64) .number ≡ 0) × (rows ≡ rowCount (now words)) × (length (now out) ≡ resultLength rows) ⌝ }
+    ensures { λ _. ⌜ now (out .exit) ≡ resultOf (now (words .entry)) processors method ⌝ }
+{
+    let mut bounds = [0u32; 64];
+    let refined = refine_at_once(words, processors, method, &mut bounds);
+    lines::put_result(refined.marks, &bounds, rows, out);
+}
+
+// Writes the result sheet of rows: marks and bounds are worked out by the refinement.
+pub fn write_result(words: &[u32], processors: u32, method: u32, out: &mut [u8]) -> Written
+    ensures { λ r. ⌜ r ≡ writeResult (now (words .entry)) processors method (length (now (out .entry))) ⌝ }
+    ensures { λ _. ⌜ now (out .exit) ≡ resultAfter (now (words .entry)) processors method (now (out .entry)) ⌝ }
+{
+    let found = result_refusal(words, processors, method, out.len());
+    let number = found.number;
+    if number != 0 {
+        return Written {
+            refusal: number,
+            place: found.place,
+            length: 0,
+        };
+    }
+    let rows = row_count(words) as u32;
+    let length = lines::HEAD + lines::LINE * (rows as usize);
+    put_refined(words, processors, method, rows, &mut out[..length]);
+    let written = length as u32;
+    Written {
+        refusal: 0,
+        place: 0,
+        length: written,
+    }
+}
+
+// Writes the line that a refused sheet gets.
+fn write_refusal(number: u32, place: u32, out: &mut [u8]) -> Written
+    ensures { λ r. ⌜ r ≡ writeAnswer (refused (roomRefusal (length (now (out .entry))) 9) 0) 9 ⌝ }
+    ensures { λ _. ⌜ now (out .exit) ≡ atFront (roomRefusal (length (now (out .entry))) 9) (refusalLine number place) (now (out .entry)) ⌝ }
+{
+    if out.len() < lines::REFUSED {
+        return Written {
+            refusal: 7,
+            place: 0,
+            length: 0,
+        };
+    }
+    lines::put_line(&mut out[..lines::REFUSED], 0x1F, number, 4, place);
+    Written {
+        refusal: 0,
+        place: 0,
+        length: 9,
+    }
+}
+
+// The whole answer to a sheet's bytes: the RTA result sheet of the at-once engine, or the one line that says why the sheet is refused.
+pub fn answer_sheet(bytes: &[u8], out: &mut [u8]) -> Written
+    ensures { λ r. ⌜ r ≡ answerSheet (now (bytes .entry)) (length (now (out .entry))) ⌝ }
+    ensures { λ _. ⌜ now (out .exit) ≡ answerAfter (now (bytes .entry)) (now (out .entry)) ⌝ }
+{
+    let mut words = [0u32; 192];
+    let read = read_sheet(bytes, &mut words);
+    let number = read.refusal;
+    if number != 0 {
+        return write_refusal(number, read.place, out);
+    }
+    let end = 3 * (read.rows as usize);
+    write_result(&words[..end], read.processors, 1, out)
+}

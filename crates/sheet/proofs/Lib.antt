@@ -1,0 +1,11 @@
+pub mod Grammar
+pub mod Lines
+pub mod Refusals
+pub mod Meaning
+pub mod Cuts
+pub mod ReadBack
+pub mod WriteBack
+pub mod Entries
+pub mod RoundTrips
+pub mod OneAnswer
+pub mod Prefix

@@ -1,0 +1,22 @@
+-- 4, then 7: the definition, with each check by its own contract.
+use mathlib.Core.Path.{_∙_, ap₂}
+use Rattle.rows.specs.Checks.{firstOf}
+use Rattle.sheet.specs.Sheets.{betweenRefusal}
+use Rattle.sheet.proofs.checks.between_refusal.Statement.{statement}
+use Rattle.sheet.proofs.checks.between_refusal.Tie as tie
+
+processors-refusal-requires : tie.Need-processors-refusal-requires
+processors-refusal-requires c κs = tt
+
+room-refusal-requires : tie.Need-room-refusal-requires
+room-refusal-requires c κs = tt
+
+first-of-requires : tie.Need-first-of-requires
+first-of-requires c κs = tt
+
+returns : tie.Need-returns
+unfolding betweenRefusal
+returns c = c .first-of .ensures ∙ ap₂ firstOf (c .before .before .processors-refusal .ensures) (c .before .room-refusal .ensures)
+
+pub between-refusal-spec : {M : Type 1} → statement M
+between-refusal-spec = tie.close (tie.spec processors-refusal-requires room-refusal-requires first-of-requires returns)

@@ -1,0 +1,5 @@
+pub mod Grammar
+pub mod Lines
+pub mod Sheets
+pub mod Inner
+pub mod Meaning
