@@ -2,22 +2,20 @@
 use mathlib.Core.Path.{_≡_, refl, sym, _∙_, ap}
 use mathlib.Core.Bool.{Bool, true, false}
 use mathlib.Core.List.{List, _++_}
-use Prim.Native.Nat.{ℕ, _≤_, _<_}
+use Prim.Native.Nat.{ℕ, _<_}
 use native.Mathlib.Omega.{arith}
 use lib.ListN.{length, getD, take, drop, List·getD-append}
 use lib.Seq.{take-at, drop-at}
-use Rattle.laws.specs.Choice.{pick}
-use Rattle.laws.specs.Fill.{Below}
 use Rattle.laws.specs.Bits.{bit, bitAt}
-use Rattle.model.specs.Answer.{BCL, RTA, methodOf, answer}
+use Rattle.model.specs.Answer.{methodOf}
 use Rattle.model.specs.Refine.{rounds, atOnce, marked, marks, Largest}
 use Rattle.model.proofs.Engines.{marks-say, unmarked-deadline}
 use Rattle.model.proofs.Methods.{engines-agree, rta-dominates}
 use Rattle.rows.specs.Words.{rowCount, sheetOf}
 use Rattle.rows.proofs.Words.{sheet-rows}
 use Rattle.analysis.specs.declared.Refined.{Refined}
-use Rattle.analysis.specs.Refinement.{askOf, refineRefusal, Engine, finalBounds, refined, refinedWords, EntriesAgree, Settled, NoWorse}
-use Rattle.analysis.proofs.Refinement.{refine-answered}
+use Rattle.analysis.specs.Refinement.{askOf, refineRefusal, finalBounds, refined, refinedWords, EntriesAgree, Settled, NoWorse}
+use Rattle.analysis.proofs.Refinement.{rounds-length, refine-answered}
 
 -- Both engines give the same final bounds for any words.
 same-final : (words : List ℕ) (m method : ℕ) → finalBounds rounds words m method ≡ finalBounds atOnce words m method
@@ -35,28 +33,24 @@ final-largest : (words : List ℕ) (m method : ℕ) → Largest (sheetOf words) 
 unfolding askOf
 final-largest words m method = engines-agree (methodOf method) (sheetOf words) m .largest
 
--- One bound a row.
-final-length : (words : List ℕ) (m method : ℕ) → length (rounds (sheetOf words) (askOf words m method)) ≡ rowCount words
-final-length words m method = final-largest words m method .consistent .one-each ∙ sheet-rows words
-
 module _ (words : List ℕ) (m method : ℕ) (out : List ℕ) (passed : (refineRefusal words m method (length out)) .number ≡ 0) where
   -- What is answered and written where nothing is refused.
   answered : _≡_ {A = ℕ} (marks (sheetOf words) (askOf words m method) (rounds (sheetOf words) (askOf words m method)))
       ((refined rounds words m method (length out)) .marks)
-  answered = ap (λ (r : Refined). r .marks) (refine-answered rounds words m method out passed _ (rowCount words) _ refl refl refl .0)
+  answered = ap (λ (r : Refined). r .marks) (refine-answered rounds words m method out passed _ (rowCount words) _ refl refl (rounds-length words m method) .0)
 
   written : rounds (sheetOf words) (askOf words m method) ++ drop (rowCount words) out ≡ refinedWords rounds words m method out
-  written = refine-answered rounds words m method out passed _ (rowCount words) _ refl refl refl .1
+  written = refine-answered rounds words m method out passed _ (rowCount words) _ refl refl (rounds-length words m method) .1
 
   -- Word k is final bound k.
   word-at : (k : ℕ) → k < rowCount words
       → getD (refinedWords rounds words m method out) k 0 ≡ getD (rounds (sheetOf words) (askOf words m method)) k 0
   word-at k h =
       ap (λ (l : List ℕ). getD l k 0) (sym written)
-      ∙ List·getD-append (rounds (sheetOf words) (askOf words m method)) (drop (rowCount words) out) 0 k (rw final-length h)
+      ∙ List·getD-append (rounds (sheetOf words) (askOf words m method)) (drop (rowCount words) out) 0 k (rw rounds-length h)
 
   front : take (rowCount words) (refinedWords rounds words m method out) ≡ rounds (sheetOf words) (askOf words m method)
-  front = ap (take (rowCount words)) (sym written) ∙ take-at _ (drop (rowCount words) out) (rowCount words) (final-length words m method)
+  front = ap (take (rowCount words)) (sym written) ∙ take-at _ (drop (rowCount words) out) (rowCount words) (rounds-length words m method)
 
   -- Bit k is row k's mark.
   mark-at : (k : ℕ) → k < rowCount words
@@ -73,7 +67,7 @@ module _ (words : List ℕ) (m method : ℕ) (out : List ℕ) (passed : (refineR
       let ask = askOf words m method in
       record {
         bounds = rw front (final-largest words m method);
-        behind = ap (drop (rowCount words)) (sym written) ∙ drop-at (rounds s ask) (drop (rowCount words) out) (rowCount words) (final-length words m method);
+        behind = ap (drop (rowCount words)) (sym written) ∙ drop-at (rounds s ask) (drop (rowCount words) out) (rowCount words) (rounds-length words m method);
         each-mark = λ k h. mark-at k h ∙ ap (λ (l : List ℕ). bit (marked ask l k)) (sym front);
         no-more = λ k h. ap (λ (n : ℕ). bitAt n k) (sym answered) ∙ marks-say s ask (rounds s ask) .past k (rw sheet-rows h);
         unmarked = λ k h zero.

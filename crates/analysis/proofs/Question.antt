@@ -1,20 +1,20 @@
 -- The checks of the one-row question, taken apart: what number 0 says, and which refusal each test leads to. What the entry answers means
 -- what it promises, and the promise fixes it.
 use mathlib.Core.Path.{_≡_, refl, sym, _∙_, ap}
-use mathlib.Core.Bool.{Bool, true, false, _&&_}
+use mathlib.Core.Bool.{Bool, true, false}
 use mathlib.Core.List.{List}
 use mathlib.Core.Option.{Option, none, some}
 use Prim.Native.Nat.{ℕ, _≤_, _<_}
 use native.Mathlib.Decide.{ℕ-discrete}
 use native.Mathlib.Omega.{arith}
-use borrow.Author.Tests.{ltb-true, ltb-false, leb-true, eqb-true, le-ltb}
+use borrow.Author.Tests.{ltb-true, ltb-false, leb-true, eqb-true}
 use lib.Dec.{leb, ltb, eqb}
 use lib.ListN.{length, getD}
-use Rattle.laws.specs.Choice.{pick, unlessRefused}
+use Rattle.laws.specs.Choice.{pick}
 use Rattle.laws.specs.Bits.{every}
-use Rattle.laws.proofs.Choice.{pick-no, not-refused, is-refused, and-left, and-right, one-answer}
+use Rattle.laws.proofs.Choice.{not-refused, is-refused, and-left, and-right, one-answer}
 use Rattle.laws.proofs.Bits.{every-each}
-use Rattle.model.specs.Answer.{methodOf, answer, Answers}
+use Rattle.model.specs.Answer.{methodOf, answer}
 use Rattle.model.proofs.Sheet.{allowed-processors}
 use Rattle.model.proofs.Answer.{answer-means, answer-fixed}
 use Rattle.rows.specs.declared.Found.{Found}

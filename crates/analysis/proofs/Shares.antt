@@ -1,19 +1,17 @@
 -- Shares worked out once, and capped, give both right sides: at X within the deadline the cap X − C + 1 is no more than D − C + 1.
-use mathlib.Core.Path.{_≡_, refl, sym, _∙_, ap}
+use mathlib.Core.Path.{_≡_, sym, _∙_, ap}
 use mathlib.Core.List.{List}
-use mathlib.Core.Bool.{Bool, true, false}
 use Prim.Native.Nat.{ℕ, _+_, _-_, _/_, _≤_, _<_, min}
-use native.Mathlib.Nat.{le-trans, le-of-eq, div-le-self}
+use native.Mathlib.Nat.{le-trans}
 use native.Mathlib.Decide.{ℕ-discrete}
 use native.Mathlib.Omega.{arith}
 use lib.ListN.{length, getD}
 use Rattle.laws.specs.Sum.{total, unless}
-use Rattle.laws.specs.Fill.{listed}
 use Rattle.laws.proofs.Sum.{total-same, total-within, unless-here, unless-other}
 use Rattle.laws.proofs.Fill.{listed-length, listed-at}
 use Rattle.model.specs.Sheet.{Sheet}
 use Rattle.model.specs.Interference.{shareOf, workOf, others, bclTerm, bclValue, rtaTerm, rtaRight}
-use Rattle.rows.specs.Words.{rowCount, sheetOf}
+use Rattle.rows.specs.Words.{sheetOf}
 use Rattle.rows.proofs.Words.{sheet-rows}
 use Rattle.rows.proofs.Checks.{sound-row}
 use Rattle.analysis.specs.Inner.{shares, termOf, Prepared}

@@ -3,9 +3,9 @@
 use mathlib.Core.Path.{_≡_, refl, sym, _∙_, ap}
 use mathlib.Core.Bool.{Bool, true, false}
 use mathlib.Core.List.{List, _++_}
-use mathlib.Core.Logic.{_⊎_, inl, inr, ⊎-elim}
+use mathlib.Core.Logic.{_⊎_, ⊎-elim}
 use mathlib.Core.Option.{Option, none, some}
-use Prim.Native.Nat.{ℕ, zero, suc, _+_, _*_, _^_, _≤_, _<_}
+use Prim.Native.Nat.{ℕ, _+_, _*_, _^_, _≤_, _<_}
 use native.Mathlib.Nat.{le-trans, lt-of-lt-of-le}
 use native.Mathlib.Numerals.{add-one}
 use native.Mathlib.Omega.{arith}
@@ -26,13 +26,11 @@ use Rattle.model.specs.Refine.{Ask, turn, round, sweep, marked, marks}
 use Rattle.model.proofs.Refine.{Regular, Held, Pass, turn-from-cost, one-turn-lowers, sweep-held, sweep-lowers, round-pass, sum-falls}
 use Rattle.model.proofs.Methods.{answer-regular}
 use Rattle.rows.specs.declared.Found.{Found}
-use Rattle.rows.specs.declared.Found.the-variants.{At, Nowhere}
-use Rattle.rows.specs.Words.{rowCount, sheetOf, foundOf}
+use Rattle.rows.specs.Words.{sheetOf, foundOf}
 use Rattle.rows.proofs.Words.{sheet-rows}
 use Rattle.rows.proofs.Checks.{sound-row}
 use Rattle.analysis.specs.Refinement.{askOf}
 use Rattle.analysis.specs.Inner.{Ready, boundOr, isFound, boundsSum, AfterPass, Copied}
-use Rattle.analysis.proofs.Limits.{bound-in-range}
 
 -- The bound of an answer, and whether there is one, as the code says it and as the definitions say it.
 bound-or-else : (o : Option ℕ) (deadline : ℕ) → boundOr (foundOf o) deadline ≡ orElse o deadline

@@ -1,10 +1,10 @@
 -- Refinement on words: its checks, what either engine answers, and what it leaves in the lent words.
 use mathlib.Core.Path.{_≡_}
-use mathlib.Core.List.{List, _++_}
+use mathlib.Core.List.{List}
 use Prim.Native.Nat.{ℕ, _≤_, _<_}
 use lib.ListN.{length, getD, take, drop}
 use Rattle.laws.specs.Choice.{unlessRefused}
-use Rattle.laws.specs.Fill.{Below}
+use Rattle.laws.specs.Fill.{Below, atFront}
 use Rattle.laws.specs.Bits.{bit, bitAt}
 use Rattle.model.specs.Sheet.{Sheet}
 use Rattle.model.specs.Answer.{methodOf, answer}
@@ -45,8 +45,7 @@ refined engine words processors method room =
 -- What it leaves in the lent words: nothing changed where it refuses; else the final bounds at the front and nothing behind changed.
 unfoldable pub refinedWords : Engine → List ℕ → ℕ → ℕ → List ℕ → List ℕ
 refinedWords engine words processors method out =
-    unlessRefused ((refineRefusal words processors method (length out)) .number) out
-    (finalBounds engine words processors method ++ drop (rowCount words) out)
+    atFront ((refineRefusal words processors method (length out)) .number) (finalBounds engine words processors method) out
 
 -- Demand 3 of the two entries, refused or not: the same answer, and the same words left behind.
 pub record EntriesAgree (words : List ℕ) (processors method : ℕ) (out : List ℕ) : Type 0 where

@@ -5,10 +5,10 @@ use rows::cost;
 use rows::deadline;
 use rows::period;
 ghost use mathlib.Core.Path.{_≡_};
-ghost use Prim.Native.Nat.{_+_, _-_, _≤_, _<_, min};
-ghost use lib.ListN.{length, getD};
-ghost use Rattle.laws.specs.Sum.{total, unless};
-ghost use Rattle.model.specs.Interference.{share, work, workOf, bclTerm, rtaRight};
+ghost use Prim.Native.Nat.{_+_, _-_, _≤_, _<_};
+ghost use lib.ListN.{length};
+ghost use Rattle.laws.specs.Sum.{unless};
+ghost use Rattle.model.specs.Interference.{share, work, bclTerm};
 ghost use Rattle.rows.specs.Words.{rowCount, sheetOf};
 ghost use Rattle.analysis.specs.Inner.{Ready, shares};
 

@@ -3,7 +3,7 @@ use crate::response::answer_row;
 use rows::Found;
 use rows::deadline;
 ghost use mathlib.Core.Path.{_≡_};
-ghost use Prim.Native.Nat.{ℕ, _+_, _*_, _^_, _≤_, _<_};
+ghost use Prim.Native.Nat.{_+_, _*_, _^_, _≤_, _<_};
 ghost use lib.ListN.{length};
 ghost use Rattle.laws.specs.Bits.{bit};
 ghost use Rattle.model.specs.Refine.{deadlines, round, sweep, rounds, atOnce, marks};
@@ -50,9 +50,9 @@ pub(crate) fn fill_turns(
     let mut seen = 0;
     let mut row = 0;
     while row < count {
-        let found = answer_row(words, bounds, row, count, processors, method);
-        seen = with_mark(seen, found, row);
-        next[row as usize] = bound_or(found, deadline(words, row));
+        let answer = answer_row(words, bounds, row, count, processors, method);
+        seen = with_mark(seen, answer, row);
+        next[row as usize] = bound_or(answer, deadline(words, row));
         row += 1;
     }
     seen

@@ -10,7 +10,7 @@ ghost use mathlib.Core.Path.{_≡_};
 ghost use Prim.Native.Nat.{ℕ, _+_, _-_, _≤_, _<_};
 ghost use lib.ListN.{length, getD};
 ghost use Rattle.laws.specs.Sum.{total};
-ghost use Rattle.model.specs.Interference.{bclValue, rtaRight};
+ghost use Rattle.model.specs.Interference.{rtaRight};
 ghost use Rattle.model.specs.Answer.{bclAnswer, rtaAnswer, methodOf, answer};
 ghost use Rattle.rows.specs.Words.{rowCount, sheetOf, foundOf};
 ghost use Rattle.analysis.specs.Inner.{Ready, Prepared, termOf};

@@ -1,7 +1,7 @@
 -- From one deadline to the next. Demand changes only at deadlines, so a length that does not miss clears every length up to the next
 -- deadline of any row; and no miss up to the busy length is no miss at all.
 use mathlib.Core.Path.{_≡_, refl, sym, _∙_, ap}
-use mathlib.Core.Logic.{_⊎_, ⊎-elim}
+use mathlib.Core.Logic.{⊎-elim}
 use mathlib.Core.Option.{Option, none, some}
 use Prim.Native.Nat.{ℕ, _+_, _*_, _≤_, _<_, min}
 use native.Mathlib.Nat.{le-refl, le-trans}

@@ -1,14 +1,13 @@
 -- The bits of a number are the tests it was made of. By induction on how many there are; the highest is added last.
-use mathlib.Core.Path.{_≡_, refl, sym, _∙_, ap}
+use mathlib.Core.Path.{_≡_, refl, sym, _∙_, ap, ap₂}
 use mathlib.Core.Bool.{Bool, true, false, _&&_}
-use mathlib.Core.Logic.{_⊎_, inl, inr, ⊎-elim}
+use mathlib.Core.Logic.{⊎-elim}
 use Prim.Native.Nat.{ℕ, zero, suc, _+_, _*_, _-_, _^_, _/_, _%_, _≤_, _<_}
 use native.Mathlib.Nat.{eq-or-lt-of-le, le-of-suc-le-suc, le-step, le-dest, lt-suc-self, two-pow-succ, pow-succ', div-eq-of-lt, lt-of-lt-of-le, add-mul-div-right, add-mul-mod-self-right, add-comm, mul-assoc}
 use native.Mathlib.Numerals.{add-one}
 use native.Mathlib.Omega.{arith}
 use lib.Arith.{digits-div}
 use lib.Pow.{pow-pos, pow-mono, pow-add}
-use Rattle.laws.specs.Choice.{pick}
 use Rattle.laws.specs.Sum.{total}
 use Rattle.laws.specs.Bits.{bit, bits, bitAt, every}
 use Rattle.laws.proofs.Choice.{never-both, and-left, and-right, and-both}
@@ -90,6 +89,12 @@ pub each-every : (f : ℕ → Bool) (n : ℕ) → ((k : ℕ) → k < n → f k �
 unfolding every
 each-every f zero each = refl
 each-every f (suc n) each = and-both (every f n) (f n) (each-every f n (λ k h. each k (le-step h))) (each n (lt-suc-self n))
+
+-- Every place passes one test as it passes another that is the same at each.
+pub every-same : (f g : ℕ → Bool) (n : ℕ) → ((k : ℕ) → k < n → f k ≡ g k) → every f n ≡ every g n
+unfolding every
+every-same f g zero each = refl
+every-same f g (suc n) each = ap₂ _&&_ (every-same f g n (λ k h. each k (le-step h))) (each n (lt-suc-self n))
 
 -- One place that fails is enough for not every.
 pub every-fails : (f : ℕ → Bool) (n k : ℕ) → k < n → f k ≡ false → every f n ≡ false

@@ -2,15 +2,15 @@
 -- reaches it, since no fixed value is passed on the way.
 use mathlib.Core.Path.{_≡_, refl, sym}
 use mathlib.Core.Bool.{Bool, true, false}
-use mathlib.Core.Logic.{_⊎_, inl, inr, ⊎-elim}
+use mathlib.Core.Logic.{⊎-elim}
 use mathlib.Core.Option.{Option, none, some}
 use Prim.Native.Nat.{ℕ, zero, suc, _+_, _-_, _≤_, _<_}
 use native.Mathlib.Nat.{le-refl, le-trans, eq-or-lt-of-le}
 use native.Mathlib.Omega.{arith}
 use borrow.Author.Tests.{eqb-true, eqb-false, ne-eqb, eq-eqb, ltb-true, ltb-false}
-use lib.Dec.{eqb, ltb}
+use lib.Dec.{ltb}
 use Rattle.laws.specs.Choice.{pick, Better}
-use Rattle.laws.specs.Search.{least, First, Nothing, Searched}
+use Rattle.laws.specs.Search.{least, Searched}
 use Rattle.laws.specs.Climb.{Monotone, fixed, Passed, climb}
 use Rattle.laws.proofs.Order.{below-or-from}
 use Rattle.laws.proofs.Search.{least-means, least-fixed}

@@ -1,21 +1,21 @@
 -- Lists filled place by place and block by block hold what was put there. By induction on how many were put.
 use mathlib.Core.Path.{_≡_, refl, sym, _∙_, ap, ap₂}
-use mathlib.Core.Bool.{Bool, true, false, _&&_}
+use mathlib.Core.Bool.{true}
 use mathlib.Core.List.{List, [], _∷_, _++_, append-assoc, append-nil}
-use mathlib.Core.Logic.{_⊎_, inl, inr, ⊎-elim}
+use mathlib.Core.Logic.{⊎-elim}
 use Prim.Native.Nat.{ℕ, zero, suc, _+_, _*_, _-_, _≤_, _<_}
-use native.Mathlib.Nat.{eq-or-lt-of-le, le-of-suc-le-suc, le-step, le-antisymm, add-zero, lt-suc-self, suc-mul, zero-mul, mul-le-mul-right, le-trans, le-refl}
+use native.Mathlib.Nat.{eq-or-lt-of-le, le-of-suc-le-suc, le-step, le-antisymm, add-zero, lt-suc-self, suc-mul, zero-mul, mul-le-mul-right}
 use native.Mathlib.Numerals.{add-one}
 use native.Mathlib.Omega.{arith}
 use borrow.Author.Tests.{eqb-true, eq-eqb}
 use lib.Dec.{eqb}
 use lib.ListN.{length, getD, take, drop, set, length-append, length-drop, drop-of-length-le, List·getD-append}
 use lib.Seq.{getD-append-add, ext-getD, drop-length, drop-cons, set-at, take-all, take-at, drop-at, take-append-le, drop-append-le, drop-drop, getD-at, getD-take, getD-drop, append-snoc}
-use Rattle.laws.proofs.Choice.{never-both, and-left, and-right}
+use Rattle.laws.proofs.Choice.{never-both, not-refused, is-refused, and-left, and-right}
 use Rattle.laws.specs.Sum.{total}
 use Rattle.laws.proofs.Order.{below-or-from}
 use Rattle.laws.proofs.Sum.{total-tight}
-use Rattle.laws.specs.Fill.{listed, joined, same, Below}
+use Rattle.laws.specs.Fill.{listed, joined, same, Below, atFront}
 
 -- As many as were listed.
 pub listed-length : (f : ℕ → ℕ) (n : ℕ) → length (listed f n) ≡ n
@@ -160,3 +160,36 @@ below-lowers n Q R q r low differ =
     (ext-getD 0 Q R (q ∙ sym r)
     (λ i h. total-tight (λ i. getD Q i 0) (λ i. getD R i 0) n low whole i (rw q at h)))))
     (below-or-from (total (λ i. getD Q i 0) n) (total (λ i. getD R i 0) n))
+
+-- One block more.
+joined-more : (f : ℕ → List ℕ) (n : ℕ) → joined f (n + 1) ≡ joined f n ++ f n
+unfolding joined
+joined-more f n = rw add-one
+
+-- A block put behind those joined so far, in the part that was lent for it.
+pub block-joined : (f : ℕ → List ℕ) (i at size end next : ℕ) (block out l : List ℕ) → length (joined f i) ≡ at → length (f i) ≡ size
+    → end ≡ at + size → next ≡ at + size → block ≡ f i → out ≡ joined f i ++ drop at l
+    → take at out ++ (block ++ drop (end - at) (drop at out)) ≡ joined f (i + 1) ++ drop next l
+block-joined f i at size end next block out l front-size block-size is-end is-next is-block stands =
+    let part : end - at ≡ size = omega arith in
+    rw (stands, is-block, part, joined-more f i, is-next)
+    (put-block (joined f i) (f i) l at size front-size block-size)
+
+-- With blocks in front of it the whole has the length that it had.
+pub blocks-kept : (f : ℕ → List ℕ) (i at : ℕ) (out l : List ℕ) → length (joined f i) ≡ at → at ≤ length l
+    → out ≡ joined f i ++ drop at l → length out ≡ length l
+blocks-kept f i at out l front-size room stands =
+    ap length stands ∙ length-append (joined f i) (drop at l) ∙ rw (front-size, length-drop at l) (omega arith)
+
+-- Where the blocks fill the whole nothing is left behind them.
+pub blocks-fill : (f : ℕ → List ℕ) (i at : ℕ) (out l : List ℕ) → length l ≡ at → out ≡ joined f i ++ drop at l → out ≡ joined f i
+blocks-fill f i at out l full stands = stands ∙ rw (← full, drop-length l) (append-nil (joined f i))
+
+-- A refusal leaves lent space alone, and without one the answer stands in front.
+pub front-left : (number : ℕ) (answer space : List ℕ) → (number ≡ 0 → ⊥) → space ≡ atFront number answer space
+unfolding atFront
+front-left number answer space one-holds = sym (is-refused number _ _ one-holds)
+
+pub front-put : (number : ℕ) (answer space : List ℕ) → number ≡ 0 → answer ++ drop (length answer) space ≡ atFront number answer space
+unfolding atFront
+front-put number answer space none-holds = sym (not-refused number _ _ none-holds)

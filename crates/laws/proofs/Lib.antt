@@ -4,4 +4,5 @@ pub mod Sum
 pub mod Search
 pub mod Climb
 pub mod Fill
+pub mod Cuts
 pub mod Bits

@@ -1,7 +1,6 @@
 -- Order of numbers: a case split, and that division and `min` keep order.
-use mathlib.Core.Path.{_≡_}
 use mathlib.Core.Logic.{_⊎_, inl, inr}
-use Prim.Native.Nat.{ℕ, zero, suc, _*_, _/_, _≤_, _<_, min}
+use Prim.Native.Nat.{ℕ, zero, suc, _/_, _≤_, _<_, min}
 use native.Mathlib.Nat.{div-zero, div-mul-le-self, le-div-iff-mul-le, le-trans, zero-lt-suc}
 use native.Mathlib.Decide.{decLt}
 use native.Mathlib.Omega.{arith}

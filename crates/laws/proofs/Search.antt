@@ -1,13 +1,13 @@
 -- A search gives what it says: the first that passes, and none only where none passes. By induction on the length of the range.
 use mathlib.Core.Path.{_≡_, refl, ap}
 use mathlib.Core.Bool.{Bool, true, false}
-use mathlib.Core.Logic.{_⊎_, inl, inr, ⊎-elim}
+use mathlib.Core.Logic.{⊎-elim}
 use mathlib.Core.Option.{Option, none, some}
 use Prim.Native.Nat.{ℕ, zero, suc, _+_, _≤_, _<_}
 use native.Mathlib.Nat.{le-refl, le-antisymm, eq-or-lt-of-le}
 use native.Mathlib.Omega.{arith}
 use Rattle.laws.specs.Choice.{pick}
-use Rattle.laws.specs.Search.{least, First, Nothing, Searched}
+use Rattle.laws.specs.Search.{least, First, Searched}
 use Rattle.laws.proofs.Order.{below-or-from}
 use Rattle.laws.proofs.Choice.{never-both}
 

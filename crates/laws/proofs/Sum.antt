@@ -1,7 +1,7 @@
 -- Laws of sums over places, by induction on the number of places.
 use mathlib.Core.Path.{_≡_, refl, ap₂}
 use mathlib.Core.Bool.{Bool, true, false}
-use mathlib.Core.Logic.{_⊎_, inl, inr, ⊎-elim}
+use mathlib.Core.Logic.{⊎-elim}
 use Prim.Native.Nat.{ℕ, zero, suc, _+_, _*_, _≤_, _<_}
 use native.Mathlib.Nat.{add-le-add, eq-or-lt-of-le, le-of-suc-le-suc, le-step, le-refl, lt-suc-self, add-lt-add-of-lt-of-le, add-lt-add-of-le-of-lt, not-le-of-lt, le-antisymm, suc-mul}
 use native.Mathlib.Numerals.{add-one}

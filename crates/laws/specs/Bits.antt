@@ -1,6 +1,6 @@
 -- The number whose bits are given, lowest first.
-use mathlib.Core.Bool.{Bool, true, false, _&&_}
-use Prim.Native.Nat.{ℕ, zero, suc, _+_, _*_, _^_, _/_, _%_}
+use mathlib.Core.Bool.{Bool, true, _&&_}
+use Prim.Native.Nat.{ℕ, zero, suc, _*_, _^_, _/_, _%_}
 use Rattle.laws.specs.Choice.{pick}
 use Rattle.laws.specs.Sum.{total}
 

@@ -5,21 +5,19 @@ use mathlib.Core.Bool.{Bool, true, false}
 use mathlib.Core.List.{List}
 use mathlib.Core.Option.{Option, none, some}
 use Prim.Native.Nat.{ℕ, zero, suc, _+_, _-_, _≤_, _<_}
-use native.Mathlib.Nat.{le-refl, le-trans}
 use native.Mathlib.Omega.{arith}
 use borrow.Author.Tests.{eqb-true, eqb-false, eq-eqb, ne-eqb, leb-true, leb-false, le-leb, lt-leb}
-use lib.Dec.{leb, eqb}
+use lib.Dec.{leb}
 use Rattle.laws.specs.Choice.{pick, Better}
-use Rattle.laws.specs.Search.{least, First, Nothing, Searched}
+use Rattle.laws.specs.Search.{Searched}
 use Rattle.laws.specs.Climb.{fixed, climb}
-use Rattle.laws.specs.Fill.{Below}
 use Rattle.laws.proofs.Choice.{pick-yes, pick-no}
 use Rattle.laws.proofs.Search.{least-means, least-fixed}
 use Rattle.laws.proofs.Climb.{Climbed, climbed-found, climbed-past, climb-reaches, fixed-below}
 use Rattle.model.specs.Sheet.{Sheet}
 use Rattle.model.specs.Interference.{bclValue, rtaRight}
-use Rattle.model.specs.Answer.{Method, BCL, RTA, methodOf, bclAnswer, rtaAnswer, answer, Response, NoResponse, Formula, Answers}
-use Rattle.model.proofs.Interference.{rtaRight-mono, rtaRight-rises, rtaRight-from-cost, bclValue-mono, bclValue-from-cost, rta-within-bcl}
+use Rattle.model.specs.Answer.{Method, BCL, RTA, methodOf, bclAnswer, rtaAnswer, answer, Answers}
+use Rattle.model.proofs.Interference.{rtaRight-rises, rtaRight-from-cost, bclValue-from-cost}
 
 -- Method 0 is BCL; every other number counts as RTA, and those above 1 are refused before.
 pub method-zero : (number : ℕ) → number ≡ 0 → methodOf number ≡ BCL

@@ -1,23 +1,20 @@
 -- One processor: the verdict has its meaning, and the meaning fixes the verdict. Demand in t is at most the work of a busy length b and the
 -- demand in t − b, so a sheet with no miss up to its busy length never misses.
-use mathlib.Core.Path.{_≡_, refl, sym, _∙_, ap, ap₂}
-use mathlib.Core.Bool.{Bool, true, false}
-use mathlib.Core.Logic.{_⊎_, inl, inr, ⊎-elim}
+use mathlib.Core.Path.{_≡_, sym, ap, ap₂}
+use mathlib.Core.Logic.{⊎-elim}
 use mathlib.Core.Option.{Option, none, some}
 use Prim.Native.Nat.{ℕ, zero, suc, _+_, _*_, _-_, _/_, _≤_, _<_}
-use native.Mathlib.Nat.{le-trans, add-le-add, add-mul, add-div-right, add-mul-div-right, lt-div-mul-add, mul-le-mul-right, le-of-eq}
+use native.Mathlib.Nat.{le-trans, add-mul, add-div-right, add-mul-div-right, lt-div-mul-add, mul-le-mul-right, le-of-eq}
 use native.Mathlib.Omega.{arith}
 use borrow.Author.Tests.{ltb-true, ltb-false, lt-ltb, le-ltb, eqb-true, eqb-false, eq-eqb, ne-eqb}
 use lib.Dec.{ltb, eqb}
-use Rattle.laws.specs.Choice.{pick}
-use Rattle.laws.specs.Sum.{total}
-use Rattle.laws.specs.Search.{least, First, Nothing, Searched}
+use Rattle.laws.specs.Search.{First, Nothing, Searched}
 use Rattle.laws.proofs.Order.{below-or-from, div-mono}
 use Rattle.laws.proofs.Choice.{pick-yes, pick-no}
 use Rattle.laws.proofs.Sum.{total-mono, total-add}
 use Rattle.laws.proofs.Search.{least-means, least-fixed}
 use Rattle.model.specs.Sheet.{Sheet, Allowed}
-use Rattle.model.specs.Demand.{rowDemand, demandOf, demand, ceiling, busyOf, busy, busyLength, firstMiss, Verdict, miss, fits, undecided, judged, verdict, Busy, Misses, Fits, Undecided, Means}
+use Rattle.model.specs.Demand.{rowDemand, demandOf, demand, ceiling, busyOf, busy, busyLength, firstMiss, Verdict, miss, fits, undecided, judged, verdict, Busy, Misses, Means}
 use Rattle.model.proofs.Sheet.{periods-positive}
 
 -- Before its deadline a row demands nothing; from it on, its jobs with deadlines within the length.

@@ -1,17 +1,15 @@
 -- Both engines end at the largest consistent set, which is unique; so they end at the same bounds and marks. Of two answers the better one
 -- ends lower, since its final set is supported under the worse one.
-use mathlib.Core.Path.{_≡_, refl, sym, _∙_, ap}
-use mathlib.Core.Bool.{Bool, true, false}
+use mathlib.Core.Path.{_≡_, refl, _∙_, ap}
+use mathlib.Core.Bool.{true, false}
 use mathlib.Core.List.{List}
 use mathlib.Core.Option.{Option, none, some}
-use Prim.Native.Nat.{ℕ, suc, _+_, _-_, _≤_, _<_}
+use Prim.Native.Nat.{ℕ, _<_}
 use native.Mathlib.Nat.{le-of-eq, le-trans}
 use native.Mathlib.Omega.{arith}
-use lib.ListN.{length, getD}
+use lib.ListN.{getD}
 use Rattle.laws.specs.Choice.{orElse, isSome, Better}
-use Rattle.laws.specs.Sum.{total}
 use Rattle.laws.specs.Fill.{Below}
-use Rattle.laws.specs.Bits.{bits, every}
 use Rattle.laws.proofs.Choice.{never-both, better-orElse, better-trans, better-exists}
 use Rattle.laws.proofs.Fill.{below-antisymm}
 use Rattle.laws.proofs.Bits.{bits-below, bits-at, bits-past, every-each, each-every, every-full, full-every}

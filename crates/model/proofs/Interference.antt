@@ -3,11 +3,11 @@
 use mathlib.Core.Path.{_≡_}
 use mathlib.Core.List.{List}
 use mathlib.Core.Logic.{⊎-elim}
-use Prim.Native.Nat.{ℕ, suc, _+_, _*_, _-_, _/_, _%_, _≤_, _<_, min}
-use native.Mathlib.Nat.{add-le-add, eq-or-lt-of-le, le-refl, le-trans, suc-mul, mul-le-mul-right}
+use Prim.Native.Nat.{ℕ, suc, _+_, _*_, _-_, _/_, _≤_, _<_}
+use native.Mathlib.Nat.{add-le-add, eq-or-lt-of-le, le-refl, suc-mul, mul-le-mul-right}
 use native.Mathlib.Omega.{arith}
 use lib.ListN.{getD}
-use Rattle.laws.specs.Sum.{total, unless}
+use Rattle.laws.specs.Sum.{unless}
 use Rattle.laws.specs.Fill.{Below}
 use Rattle.laws.specs.Climb.{Monotone}
 use Rattle.laws.proofs.Order.{div-mono, min-mono}

@@ -3,19 +3,18 @@ use mathlib.Core.Path.{_≡_, refl, sym}
 use mathlib.Core.Bool.{Bool, true, false}
 use mathlib.Core.List.{List}
 use mathlib.Core.Option.{Option, none, some}
-use Prim.Native.Nat.{ℕ, _+_, _-_, _≤_, _<_}
+use Prim.Native.Nat.{ℕ, _≤_}
 use native.Mathlib.Nat.{le-refl, le-trans, le-of-eq}
 use native.Mathlib.Omega.{arith}
-use borrow.Author.Tests.{leb-true, leb-false, le-leb}
+use borrow.Author.Tests.{leb-true, leb-false}
 use lib.Dec.{leb}
 use Rattle.laws.specs.Choice.{pick, Better}
 use Rattle.laws.specs.Fill.{Below}
-use Rattle.laws.proofs.Choice.{pick-yes, better-refl}
 use Rattle.model.specs.Sheet.{Sheet}
 use Rattle.model.specs.Interference.{bclValue, rtaRight}
 use Rattle.model.specs.Answer.{Method, BCL, RTA, bclAnswer, rtaAnswer, answer, Answers}
 use Rattle.model.specs.Refine.{SameEnd, Dominates}
-use Rattle.model.proofs.Interference.{bclValue-mono, bclValue-from-cost, rtaRight-mono, rta-within-bcl}
+use Rattle.model.proofs.Interference.{bclValue-mono, rtaRight-mono, rta-within-bcl}
 use Rattle.model.proofs.Answer.{answer-means, answer-within, rta-below}
 use Rattle.model.proofs.Refine.{Regular}
 use Rattle.model.proofs.Engines.{same-end, dominates}

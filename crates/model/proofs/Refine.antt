@@ -4,22 +4,22 @@
 use mathlib.Core.Path.{_≡_, refl, sym, _∙_, ap}
 use mathlib.Core.Bool.{Bool, true, false}
 use mathlib.Core.List.{List}
-use mathlib.Core.Logic.{_⊎_, inl, inr, ⊎-elim}
+use mathlib.Core.Logic.{⊎-elim}
 use mathlib.Core.Option.{Option, none, some}
 use Prim.Native.Nat.{ℕ, zero, suc, _+_, _-_, _≤_, _<_, min}
-use native.Mathlib.Nat.{le-refl, le-trans, le-step, le-of-suc-le, le-of-eq, eq-or-lt-of-le, le-of-suc-le-suc, lt-suc-self}
+use native.Mathlib.Nat.{le-refl, le-trans, le-of-suc-le, le-of-eq, eq-or-lt-of-le, le-of-suc-le-suc}
 use native.Mathlib.Decide.{ℕ-discrete}
 use native.Mathlib.Omega.{arith}
 use lib.ListN.{length, getD, set, length-set}
 use lib.Seq.{getD-set-same, getD-set-other, set-getD}
 use Rattle.laws.specs.Choice.{pick, orElse, Better}
 use Rattle.laws.specs.Sum.{total}
-use Rattle.laws.specs.Fill.{listed, same, Below}
-use Rattle.laws.proofs.Choice.{never-both, better-refl, better-trans, better-orElse, better-exists}
+use Rattle.laws.specs.Fill.{same, Below}
+use Rattle.laws.proofs.Choice.{never-both, better-orElse}
 use Rattle.laws.proofs.Sum.{total-mono, total-same, total-add}
-use Rattle.laws.proofs.Fill.{listed-length, listed-at, same-true, same-self, below-antisymm, below-lowers}
+use Rattle.laws.proofs.Fill.{listed-length, listed-at, same-true, same-self, below-lowers}
 use Rattle.model.specs.Sheet.{Sheet}
-use Rattle.model.specs.Refine.{Ask, deadlines, turn, round, sweep, until, passes, rounds, atOnce, Consistent, Supported, Largest}
+use Rattle.model.specs.Refine.{Ask, deadlines, turn, round, sweep, until, Consistent, Supported}
 
 -- What refinement asks of a one-row answer: it lies from the cost to the deadline, and smaller bounds give a better one.
 pub record Regular (s : Sheet) (ask : Ask) : Type 0 where

@@ -1,7 +1,7 @@
 -- Slips that would pass a quick look: each is written out beside the definition that it would stand in for, and gives the wrong number that
 -- document 01 names, where the right one stands in the table of numbers.
 use mathlib.Core.Path.{_≡_, refl}
-use mathlib.Core.Bool.{Bool, true, false, _&&_}
+use mathlib.Core.Bool.{_&&_}
 use mathlib.Core.List.{List, [], _∷_}
 use mathlib.Core.Option.{Option, none, some}
 use Prim.Native.Nat.{ℕ, _+_, _*_, _-_, _/_, _<_}
@@ -14,7 +14,7 @@ use Rattle.laws.specs.Search.{least}
 use Rattle.laws.specs.Fill.{listed}
 use Rattle.model.specs.Sheet.{Sheet, triples}
 use Rattle.model.specs.Interference.{share, carried, work, shareOf, workOf, others, bclTerm, rtaTerm, rtaRight}
-use Rattle.model.specs.Answer.{RTA, rtaAnswer, answer}
+use Rattle.model.specs.Answer.{rtaAnswer, answer}
 use Rattle.model.specs.Refine.{deadlines, turn, round}
 use Rattle.model.specs.Demand.{rowDemand, demandOf, demand, firstMiss, Verdict, miss, fits}
 use Rattle.model.specs.Numbers.{caseS, askS, twins, missing}

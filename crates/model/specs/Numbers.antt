@@ -1,11 +1,10 @@
 -- Numbers worked by hand: cases P1 to P10, as one table; what the engines do on S; and sheets that tell wrong tools from right ones.
 use mathlib.Core.Path.{_≡_}
-use mathlib.Core.List.{List, [], _∷_}
-use mathlib.Core.Option.{Option, none, some}
-use Prim.Native.Nat.{ℕ}
+use mathlib.Core.List.{[], _∷_}
+use mathlib.Core.Option.{none, some}
 use Rattle.model.specs.Sheet.{Sheet, triples}
 use Rattle.model.specs.Interference.{share, work}
-use Rattle.model.specs.Answer.{Method, BCL, RTA, answer}
+use Rattle.model.specs.Answer.{BCL, RTA, answer}
 use Rattle.model.specs.Refine.{Ask, round, sweep, rounds, atOnce, marks, Consistent}
 use Rattle.model.specs.Demand.{rowDemand, verdict, miss, fits, undecided}
 

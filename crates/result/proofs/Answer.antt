@@ -1,11 +1,11 @@
 -- The whole answer: a refused sheet gets its line, and a sheet that was read is refused later only for want of room.
 use mathlib.Core.Path.{_≡_, refl, sym, _∙_, ap, ap₂}
-use mathlib.Core.List.{List, _++_}
+use mathlib.Core.List.{List}
 use Prim.Native.Nat.{ℕ, _*_, _≤_}
-use native.Mathlib.Omega.{arith}
 use lib.ListN.{length, take, drop}
 use lib.Seq.{take-at}
 use Rattle.laws.proofs.Choice.{not-refused, is-refused, one-answer}
+use Rattle.laws.specs.Fill.{atFront}
 use Rattle.rows.specs.declared.Refusal.{Refusal}
 use Rattle.rows.specs.Words.{rowCount}
 use Rattle.rows.specs.Checks.{refused, methodRefusal, roomRefusal}
@@ -14,11 +14,11 @@ use Rattle.sheet.specs.declared.Read.{Read}
 use Rattle.sheet.specs.declared.Written.{Written}
 use Rattle.sheet.specs.Grammar.{processorsWritten, rowsWritten}
 use Rattle.sheet.specs.Lines.{wordsWritten}
-use Rattle.sheet.specs.Sheets.{readRefusal, readAnswer, readSheet, wordsAfter, writeAnswer, atFront}
+use Rattle.sheet.specs.Sheets.{readRefusal, readSheet, wordsAfter, writeAnswer}
 use Rattle.sheet.proofs.Refusals.{read-refused, words-length}
 use Rattle.sheet.proofs.Entries.{Readable, read-number, read-found, read-answers, read-leaves}
 use Rattle.result.specs.Lines.{resultLength, refusalLine}
-use Rattle.result.specs.Result.{resultOf, resultRefusal, writeResult, resultAfter, mostWords, answerText, answerRefusal, answerSheet, answerAfter}
+use Rattle.result.specs.Result.{resultOf, writeResult, resultAfter, mostWords, answerText, answerRefusal, answerSheet, answerAfter}
 use Rattle.result.proofs.Text.{refusal-length}
 use Rattle.result.proofs.Entries.{room-decides, result-of-length}
 
@@ -33,9 +33,10 @@ fitted : (bytes text out : List ℕ) (size : ℕ) → answerText bytes ≡ text 
     × (atFront (roomRefusal (length out) size) text out ≡ answerAfter bytes out)
 unfolding answerSheet answerAfter answerRefusal
 fitted bytes text out size is-text is-size =
-    let whole : size ≡ length (answerText bytes) = sym (ap length is-text ∙ is-size) in
-    (ap (λ (n : ℕ). writeAnswer (refused (roomRefusal (length out) n) 0) n) whole,
-    ap₂ (λ (n : ℕ) (l : List ℕ). atFront (roomRefusal (length out) n) l out) whole (sym is-text))
+    let whole : size ≡ length (answerText bytes) = sym (ap length is-text ∙ is-size) in (
+      ap (λ (n : ℕ). writeAnswer (refused (roomRefusal (length out) n) 0) n) whole,
+      ap₂ (λ (n : ℕ) (l : List ℕ). atFront (roomRefusal (length out) n) l out) whole (sym is-text),
+    )
 
 -- A refused sheet: its number and place go into its line.
 pub refused-answer : (bytes out : List ℕ) (read : Read) → read ≡ readSheet bytes 192 → (read .refusal ≡ 0 → ⊥)
@@ -80,10 +81,11 @@ module _ (bytes zeros : List ℕ) (whole : length zeros ≡ 192) (read : Read) (
       let m = processorsWritten bytes in
       let only = room-decides words m 1 (length out) (facts .passed .sound) (allowed-processors m (facts .passed .allowed)) method-one in
       let fits = fitted bytes (resultOf words m 1) out (resultLength (rowCount words))
-          (not-refused _ _ _ (sym (read-number bytes 192) ∙ sym (ap (λ (r : Read). r .refusal) is-read) ∙ accepted)) (result-of-length words m 1) in
-      rw (words-are, processors-are)
-      (ap (λ (r : Refusal). writeAnswer r (resultLength (rowCount words))) only ∙ fits .0,
-      ap (λ (r : Refusal). atFront (r .number) (resultOf words m 1) out) only ∙ fits .1)
+      (not-refused _ _ _ (sym (read-number bytes 192) ∙ sym (ap (λ (r : Read). r .refusal) is-read) ∙ accepted)) (result-of-length words m 1) in
+      rw (words-are, processors-are) (
+        ap (λ (r : Refusal). writeAnswer r (resultLength (rowCount words))) only ∙ fits .0,
+        ap (λ (r : Refusal). atFront (r .number) (resultOf words m 1) out) only ∙ fits .1,
+      )
 
 -- Two results that the contracts allow are equal, and so are two written texts.
 pub write-result-unique : (words : List ℕ) (m method room : ℕ) (first second : Written) → first ≡ writeResult words m method room

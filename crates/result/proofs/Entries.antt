@@ -1,25 +1,19 @@
 -- The entries' checks and answers: what number 0 says, and that a sheet read without refusal is refused later only for want of room.
 use mathlib.Core.Path.{_≡_, refl, sym, _∙_, ap, ap₂}
-use mathlib.Core.Bool.{not}
 use mathlib.Core.List.{List, _++_}
 use Prim.Native.Nat.{ℕ, _≤_}
-use native.Mathlib.Decide.{ℕ-discrete}
-use borrow.Author.Tests.{le-ltb, eq-eqb, ne-eqb}
 use native.Mathlib.Omega.{arith}
 use lib.ListN.{length, drop, length-append}
-use Rattle.laws.proofs.Choice.{pick-yes, pick-no}
 use Rattle.model.specs.Refine.{atOnce, marks}
-use Rattle.model.proofs.Engines.{at-once-largest}
 use Rattle.rows.specs.declared.Refusal.{Refusal}
 use Rattle.rows.specs.Words.{rowCount, sheetOf}
-use Rattle.rows.specs.Checks.{refused, processorsRefusal, methodRefusal, roomRefusal, firstOf, tooMany, wordsRefusal}
+use Rattle.rows.specs.Checks.{refused, processorsRefusal, methodRefusal, roomRefusal, firstOf, wordsRefusal}
 use Rattle.rows.specs.Inner.{SoundRows}
 use Rattle.rows.proofs.Words.{sheet-rows}
 use Rattle.rows.proofs.Checks as checks
 use Rattle.analysis.specs.declared.Refined.{Refined}
 use Rattle.analysis.specs.Refinement.{askOf, refineRefusal, finalBounds, refined, refinedWords}
-use Rattle.analysis.proofs.Steps.{ask-regular}
-use Rattle.analysis.proofs.Refinement.{refine-answered}
+use Rattle.analysis.proofs.Refinement.{at-once-length, refine-answered}
 use Rattle.result.specs.Lines.{resultLength}
 use Rattle.result.specs.Result.{resultOf, resultRefusal}
 use Rattle.result.specs.Inner.{linesFrom}
@@ -62,34 +56,15 @@ refines words m method room facts =
     (record {
       rows = facts .rows;
       nothing-between = checks.first-of-none _ _ (facts .processors)
-        (checks.first-of-none _ _ (facts .methods) (checks.enough-room 64 (rowCount words) (facts .rows .at-most)));
+          (checks.first-of-none _ _ (facts .methods) (checks.enough-room 64 (rowCount words) (facts .rows .at-most)));
     }))
-
--- Sound words are refused exactly by the entry's own checks.
-sound-between : (words : List ℕ) (between : ℕ) → SoundRows words → wordsRefusal words between ≡ refused between 0
-unfolding wordsRefusal tooMany
-sound-between words between sound = decided (ℕ-discrete between 0)
-  where
-    decided : Dec (between ≡ 0) → wordsRefusal words between ≡ refused between 0
-    decided (yes zero) =
-        checks.sound-passes words between (record { rows = sound; nothing-between = zero })
-        ∙ ap (λ (n : ℕ). refused n 0) (sym zero)
-    decided (no one-holds) =
-        pick-no _ _ _ (checks.whole-rows words (sound .whole) (sound .one-or-more))
-        ∙ pick-no _ _ _ (le-ltb 64 (rowCount words) (sound .at-most))
-        ∙ pick-yes _ _ _ (ap not (ne-eqb between 0 one-holds))
-
--- A check that does not hold leaves it to the next.
-next-decides : (first second : ℕ) → first ≡ 0 → firstOf first second ≡ second
-unfolding firstOf
-next-decides first second zero = pick-yes _ _ _ (eq-eqb first 0 zero)
 
 -- Sound rows with processors and method allowed are refused only for want of room.
 pub room-decides : (words : List ℕ) (m method room : ℕ) → SoundRows words → processorsRefusal m ≡ 0 → methodRefusal method ≡ 0
     → resultRefusal words m method room ≡ refused (roomRefusal room (resultLength (rowCount words))) 0
 unfolding resultRefusal
 room-decides words m method room sound four five =
-    ap (wordsRefusal words) (next-decides _ _ four ∙ next-decides _ _ five) ∙ sound-between words _ sound
+    ap (wordsRefusal words) (checks.next-decides _ _ four ∙ checks.next-decides _ _ five) ∙ checks.sound-between words _ sound
 
 -- A result sheet has the length that its rows say.
 pub result-of-length : (words : List ℕ) (m method : ℕ) → length (resultOf words m method) ≡ resultLength (rowCount words)
@@ -99,16 +74,12 @@ result-of-length words m method =
 
 module _ (words : List ℕ) (m method : ℕ) (out : List ℕ) (passed : (refineRefusal words m method (length out)) .number ≡ 0) (r : Refined)
     (after : List ℕ) (answered : r ≡ refined atOnce words m method (length out)) (written : after ≡ refinedWords atOnce words m method out) where
-  -- One final bound a row.
-  final-length : length (atOnce (sheetOf words) (askOf words m method)) ≡ (sheetOf words) .rows
-  final-length = at-once-largest (sheetOf words) (askOf words m method) (ask-regular words m method) .consistent .one-each
-
   -- What refining answered and wrote, where it was not refused.
   marks-are : r .marks ≡ marks (sheetOf words) (askOf words m method) (atOnce (sheetOf words) (askOf words m method))
-  marks-are = ap (λ (x : Refined). x .marks) (answered ∙ sym (refine-answered atOnce words m method out passed _ (rowCount words) _ refl refl refl .0))
+  marks-are = ap (λ (x : Refined). x .marks) (answered ∙ sym (refine-answered atOnce words m method out passed _ (rowCount words) _ refl refl (at-once-length words m method) .0))
 
   bounds-are : after ≡ atOnce (sheetOf words) (askOf words m method) ++ drop (rowCount words) out
-  bounds-are = written ∙ sym (refine-answered atOnce words m method out passed _ (rowCount words) _ refl refl refl .1)
+  bounds-are = written ∙ sym (refine-answered atOnce words m method out passed _ (rowCount words) _ refl refl (at-once-length words m method) .1)
 
   -- There is a bound for each row.
   pub bound-each : rowCount words ≤ length after
@@ -117,8 +88,7 @@ module _ (words : List ℕ) (m method : ℕ) (out : List ℕ) (passed : (refineR
         arith,
         ap length bounds-are,
         length-append (atOnce (sheetOf words) (askOf words m method)) (drop (rowCount words) out),
-        final-length,
-        sheet-rows words,
+        at-once-length words m method,
       )
 
   -- The lines from them are the result sheet.
@@ -129,4 +99,4 @@ module _ (words : List ℕ) (m method : ℕ) (out : List ℕ) (passed : (refineR
       let ask = askOf words m method in
       ap (linesFrom (r .marks) after) (is-rows ∙ sym (sheet-rows words))
       ∙ ap₂ (λ (n : ℕ) (l : List ℕ). linesFrom n l (s .rows)) marks-are bounds-are
-      ∙ text-is s ask (atOnce s ask) (drop (rowCount words) out) final-length
+      ∙ text-is s ask (atOnce s ask) (drop (rowCount words) out) (at-once-length words m method ∙ sym (sheet-rows words))

@@ -1,15 +1,16 @@
 -- The lines of a result sheet: how long they are, and that the marks as one number say what the definitions say.
-use mathlib.Core.Path.{_≡_, refl, sym, _∙_, ap, ap₂}
-use mathlib.Core.Bool.{Bool, true, false, _&&_}
+use mathlib.Core.Path.{_≡_, refl, _∙_, ap, ap₂}
+use mathlib.Core.Bool.{Bool, true, false}
 use mathlib.Core.List.{List, _++_}
-use Prim.Native.Nat.{ℕ, zero, suc, _+_, _*_, _≤_, _<_}
-use native.Mathlib.Nat.{le-step, lt-suc-self}
+use Prim.Native.Nat.{ℕ, _+_, _*_}
 use native.Mathlib.Omega.{arith}
 use lib.Dec.{eqb}
 use lib.ListN.{length, getD, length-append, List·getD-append}
 use Rattle.laws.specs.Fill.{joined}
-use Rattle.laws.specs.Bits.{bit, bitAt, every}
+use Rattle.laws.specs.Bits.{bit, bitAt}
 use Rattle.laws.proofs.Fill.{joined-length}
+use Rattle.laws.proofs.Cuts.{joined-same}
+use Rattle.laws.proofs.Bits.{every-same}
 use Rattle.digits.proofs.Number.{digits-length}
 use Rattle.model.specs.Sheet.{Sheet}
 use Rattle.model.specs.Refine.{Ask, marked, marks, accepted}
@@ -35,19 +36,6 @@ pub rows-length : (marks : ℕ) (bounds : List ℕ) (n : ℕ) → length (joined
 unfolding line
 rows-length marks bounds n = joined-length (lineFrom marks bounds) line n (λ j h. row-line-length marks bounds j) ∙ omega arith
 
--- Blocks joined are the same where each is.
-joined-same : (f g : ℕ → List ℕ) (n : ℕ) → ((k : ℕ) → k < n → f k ≡ g k) → joined f n ≡ joined g n
-unfolding joined
-joined-same f g zero each = refl
-joined-same f g (suc n) each =
-    ap₂ (λ (x y : List ℕ). x ++ y) (joined-same f g n (λ k h. each k (le-step h))) (each n (lt-suc-self n))
-
--- Every place passes one test as it passes another that is the same at each.
-every-same : (f g : ℕ → Bool) (n : ℕ) → ((k : ℕ) → k < n → f k ≡ g k) → every f n ≡ every g n
-unfolding every
-every-same f g zero each = refl
-every-same f g (suc n) each = ap₂ _&&_ (every-same f g n (λ k h. each k (le-step h))) (each n (lt-suc-self n))
-
 -- A bit is set exactly if the row is marked.
 set-is : (b : Bool) → eqb (bit b) 1 ≡ b
 set-is true = refl
@@ -62,7 +50,7 @@ text-is s ask R rest size =
     (every-same _ _ (s .rows) (λ k h. ap (λ (x : ℕ). eqb x 1) (marks-say s ask R .each k h) ∙ set-is (marked ask R k)))
     (joined-same _ _ (s .rows)
     (λ k h.
-      ap₂ rowLine (marks-say s ask R .each k h) (List·getD-append R rest 0 k (rw size h))))
+    ap₂ rowLine (marks-say s ask R .each k h) (List·getD-append R rest 0 k (rw size h))))
 
 -- A result sheet is as long as its rows say.
 pub result-length : (s : Sheet) (ask : Ask) (R : List ℕ) → length (resultBytes s ask R) ≡ resultLength (s .rows)

@@ -3,6 +3,7 @@ use mathlib.Core.List.{List}
 use Prim.Native.Nat.{ℕ}
 use lib.ListN.{length}
 use Rattle.laws.specs.Choice.{unlessRefused}
+use Rattle.laws.specs.Fill.{atFront}
 use Rattle.model.specs.Refine.{atOnce}
 use Rattle.rows.specs.declared.Refusal.{Refusal}
 use Rattle.rows.specs.Words.{rowCount, sheetOf}
@@ -11,7 +12,7 @@ use Rattle.analysis.specs.Refinement.{askOf, finalBounds}
 use Rattle.sheet.specs.declared.Written.{Written}
 use Rattle.sheet.specs.Grammar.{processorsWritten}
 use Rattle.sheet.specs.Lines.{wordsWritten}
-use Rattle.sheet.specs.Sheets.{readRefusal, writeAnswer, atFront}
+use Rattle.sheet.specs.Sheets.{readRefusal, writeAnswer}
 use Rattle.result.specs.Lines.{resultLength, resultBytes, refusalLine}
 
 -- The result sheet of rows: marks and bounds are worked out by the refinement, at once.

@@ -13,10 +13,11 @@ use sheet::Written;
 use sheet::read_sheet;
 ghost use mathlib.Core.Path.{_≡_};
 ghost use lib.ListN.{length};
+ghost use Rattle.laws.specs.Fill.{atFront};
 ghost use Rattle.rows.specs.Words.{rowCount};
 ghost use Rattle.rows.specs.Checks.{refused, roomRefusal};
 ghost use Rattle.analysis.specs.Refinement.{refineRefusal};
-ghost use Rattle.sheet.specs.Sheets.{writeAnswer, atFront};
+ghost use Rattle.sheet.specs.Sheets.{writeAnswer};
 ghost use Rattle.result.specs.Lines.{resultLength, refusalLine};
 ghost use Rattle.result.specs.Result.{resultOf, resultRefusal, writeResult, resultAfter, answerSheet, answerAfter};
 

@@ -1,5 +1,5 @@
 -- The checks in number order, taken apart: a refusal with number 0 failed every test, and where every test fails there is none.
-use mathlib.Core.Path.{_≡_, refl, _∙_, ap}
+use mathlib.Core.Path.{_≡_, refl, sym, _∙_, ap}
 use mathlib.Core.Bool.{Bool, true, false, not, _||_}
 use mathlib.Core.List.{List}
 use mathlib.Core.Option.{Option, none, some}
@@ -12,6 +12,7 @@ use Rattle.laws.specs.Choice.{pick, unlessRefused}
 use Rattle.laws.specs.Search.{Nothing}
 use Rattle.laws.proofs.Choice.{never-both, pick-yes, pick-no}
 use Rattle.laws.proofs.Search.{least-means, least-fixed}
+use native.Mathlib.Decide.{ℕ-discrete}
 use Rattle.model.specs.Sheet.{Sheet, rowAllowedAt, processorsAllowed}
 use Rattle.rows.specs.declared.Refusal.{Refusal}
 use Rattle.rows.specs.Words.{rowCount, sheetOf, outside, firstOutside}
@@ -185,3 +186,22 @@ both-passed first second zero = split (eqb (first .number) 0) refl zero
     split : (b : Bool) → eqb (first .number) 0 ≡ b → (pick b second first) .number ≡ 0 → (first .number ≡ 0) × (second .number ≡ 0)
     split true is-zero zero = (eqb-true (first .number) 0 is-zero, zero)
     split false not-zero zero = absurd (eqb-false (first .number) 0 not-zero zero)
+
+-- Sound words are refused exactly by the entry's own
+pub sound-between : (words : List ℕ) (between : ℕ) → SoundRows words → wordsRefusal words between ≡ refused between 0
+unfolding wordsRefusal tooMany
+sound-between words between sound = decided (ℕ-discrete between 0)
+  where
+    decided : Dec (between ≡ 0) → wordsRefusal words between ≡ refused between 0
+    decided (yes zero) =
+        sound-passes words between (record { rows = sound; nothing-between = zero })
+        ∙ ap (λ (n : ℕ). refused n 0) (sym zero)
+    decided (no one-holds) =
+        pick-no _ _ _ (whole-rows words (sound .whole) (sound .one-or-more))
+        ∙ pick-no _ _ _ (le-ltb 64 (rowCount words) (sound .at-most))
+        ∙ pick-yes _ _ _ (ap not (ne-eqb between 0 one-holds))
+
+-- A check that does not hold leaves it to the next.
+pub next-decides : (first second : ℕ) → first ≡ 0 → firstOf first second ≡ second
+unfolding firstOf
+next-decides first second zero = pick-yes _ _ _ (eq-eqb first 0 zero)

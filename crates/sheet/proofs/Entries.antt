@@ -10,6 +10,7 @@ use borrow.Author.Tests.{eqb-true}
 use lib.Dec.{eqb, ltb}
 use lib.ListN.{length, drop}
 use Rattle.laws.specs.Choice.{pick, unlessRefused}
+use Rattle.laws.proofs.Fill.{front-put}
 use Rattle.model.specs.Sheet.{processorsAllowed}
 use Rattle.rows.specs.declared.Refusal.{Refusal}
 use Rattle.rows.specs.Words.{rowCount, sheetOf, firstOutside}
@@ -21,7 +22,7 @@ use Rattle.sheet.specs.Lines.{sheetBytes, wordsWritten}
 use Rattle.sheet.specs.Meaning.{Formed, Breaks}
 use Rattle.sheet.specs.Sheets.{betweenRefusal, formedRefusal, formRefusal, readRefusal, readRefused, readAnswer, readSheet, wordsAfter, writeRefusal, writeAnswer, writeSheet, bytesAfter}
 use Rattle.sheet.proofs.Meaning.{form-means, form-fixed}
-use Rattle.sheet.proofs.Refusals.{Passed, passed, passes, front-put, read-refused, read-accepted, write-accepted, form-wrong, form-right}
+use Rattle.sheet.proofs.Refusals.{Passed, passed, passes, read-refused, read-accepted, write-accepted, form-wrong, form-right}
 
 -- A row outside the sizes allowed is no refusal 1.
 rows-not-one : (row : Option ℕ) → (rowsRefusal row) .number ≡ 1 → ⊥

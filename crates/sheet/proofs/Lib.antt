@@ -2,7 +2,6 @@ pub mod Grammar
 pub mod Lines
 pub mod Refusals
 pub mod Meaning
-pub mod Cuts
 pub mod ReadBack
 pub mod WriteBack
 pub mod Entries

@@ -18,7 +18,7 @@ use Rattle.sheet.specs.Grammar.{head, line, sheetLength, lineAllows, pro
 use Rattle.sheet.specs.Lines.{firstLine, rowLine, lineOf, sheetBytes, wordOffset, wordWritten, wordsWritten}
 use Rattle.sheet.specs.Meaning.{Formed}
 use Rattle.sheet.proofs.Grammar.{line-zero, line-kind, line-end, line-digit, sheet-head, sheet-row}
-use Rattle.sheet.proofs.Cuts.{listed-cut, joined-listed, joined-same}
+use Rattle.laws.proofs.Cuts.{listed-cut, joined-listed, joined-same}
 use Rattle.sheet.proofs.Refusals.{words-rows}
 
 -- The digits of a number that was read behind a line's start are the bytes that stand there.

@@ -1,14 +1,15 @@
 -- The checks of reading and writing: what a refusal, and none, says of the answer and of the lent space.
 use mathlib.Core.Path.{_≡_, sym, _∙_}
 use mathlib.Core.Bool.{true}
-use mathlib.Core.List.{List, _++_}
+use mathlib.Core.List.{List}
 use mathlib.Core.Option.{none, some}
 use Prim.Native.Nat.{ℕ, _*_, _≤_, _<_}
 use native.Mathlib.Omega.{arith}
 use borrow.Author.Tests.{lt-ltb}
-use lib.ListN.{length, drop}
+use lib.ListN.{length}
 use Rattle.laws.proofs.Choice.{pick-yes, pick-no, not-refused, is-refused}
-use Rattle.laws.proofs.Fill.{listed-length}
+use Rattle.laws.proofs.Fill.{listed-length, front-left}
+use Rattle.laws.specs.Fill.{atFront}
 use Rattle.model.specs.Sheet.{processorsAllowed}
 use Rattle.rows.specs.declared.Refusal.{Refusal}
 use Rattle.rows.specs.Words.{rowCount}
@@ -18,7 +19,7 @@ use Rattle.rows.proofs.Checks.{whole-rows, accepted, sound-passes, first-of-zer
 use Rattle.sheet.specs.declared.Read.{Read}
 use Rattle.sheet.specs.Grammar.{processorsWritten, rowsWritten, firstWrong}
 use Rattle.sheet.specs.Lines.{wordWritten, wordsWritten}
-use Rattle.sheet.specs.Sheets.{betweenRefusal, formedRefusal, formRefusal, readRefusal, readRefused, readAnswer, atFront, writeAnswer}
+use Rattle.sheet.specs.Sheets.{betweenRefusal, formedRefusal, formRefusal, readRefusal, readRefused, readAnswer, writeAnswer}
 
 -- What the checks after the form ask: sound rows, allowed processors, and room for the answer.
 pub record Passed (words : List ℕ) (processors room need : ℕ) : Type 0 where
@@ -48,15 +49,6 @@ passes words processors room need facts =
       rows = facts .sound;
       nothing-between = first-of-none _ _ (allowed-processors processors (facts .allowed)) (enough-room room need (facts .enough));
     })
-
--- A refusal leaves lent space alone, and without one the answer stands in front.
-pub front-left : (number : ℕ) (answer space : List ℕ) → (number ≡ 0 → ⊥) → space ≡ atFront number answer space
-unfolding atFront
-front-left number answer space one-holds = sym (is-refused number _ _ one-holds)
-
-pub front-put : (number : ℕ) (answer space : List ℕ) → number ≡ 0 → answer ++ drop (length answer) space ≡ atFront number answer space
-unfolding atFront
-front-put number answer space none-holds = sym (not-refused number _ _ none-holds)
 
 -- What reading returns, refused or not.
 pub read-refused : (refusal : Refusal) (bytes : List ℕ) → (refusal .number ≡ 0 → ⊥) → readRefused (refusal .number) (refusal .place) ≡ readAnswer refusal bytes

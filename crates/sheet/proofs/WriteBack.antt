@@ -25,7 +25,7 @@ use Rattle.sheet.specs.Grammar.{head, line, sheetLength, lineAllows, she
 use Rattle.sheet.specs.Lines.{firstLine, rowLine, lineOf, sheetBytes, wordOffset, wordWritten, wordsWritten}
 use Rattle.sheet.specs.Meaning.{Formed}
 use Rattle.sheet.proofs.Grammar.{sheet-head, sheet-row}
-use Rattle.sheet.proofs.Cuts.{getD-between, along, along-each}
+use Rattle.laws.proofs.Cuts.{getD-between, along, along-each}
 use Rattle.sheet.proofs.Lines.{first-line-length, row-line-length, sheet-bytes-length}
 
 -- The digits of the two lines' kinds, as bytes.

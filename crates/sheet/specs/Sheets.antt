@@ -1,9 +1,10 @@
 -- Reading and writing a sheet: the answer and the final contents of lent space, refused or not.
-use mathlib.Core.List.{List, _++_}
+use mathlib.Core.List.{List}
 use mathlib.Core.Option.{Option, none, some}
 use Prim.Native.Nat.{ℕ, _*_}
-use lib.ListN.{length, drop}
+use lib.ListN.{length}
 use Rattle.laws.specs.Choice.{unlessRefused}
+use Rattle.laws.specs.Fill.{atFront}
 use Rattle.rows.specs.declared.Refusal.{Refusal}
 use Rattle.rows.specs.Words.{rowCount, sheetOf}
 use Rattle.rows.specs.Checks.{refused, processorsRefusal, roomRefusal, firstOf, wordsRefusal}
@@ -39,10 +40,6 @@ unfoldable pub readAnswer : Refusal → List ℕ → Read
 readAnswer refusal bytes =
     unlessRefused (refusal .number) (readRefused (refusal .number) (refusal .place))
     (record { refusal = 0; place = 0; processors = processorsWritten bytes; rows = rowsWritten bytes })
-
--- What an entry leaves in lent space: exactly the answer at the front and nothing behind it changed; where it refuses, nothing changed.
-unfoldable pub atFront : ℕ → List ℕ → List ℕ → List ℕ
-atFront number answer space = unlessRefused number space (answer ++ drop (length answer) space)
 
 -- Reading a sheet: what it returns, and what it leaves in the lent words.
 unfoldable pub readSheet : List ℕ → ℕ → Read

@@ -9,5 +9,7 @@ ghost use Rattle.sheet.specs.Sheets.{betweenRefusal};
 pub(crate) fn between_refusal(processors: u32, room: usize, need: usize) -> u32
     ensures { λ r. ⌜ r ≡ betweenRefusal processors room need ⌝ }
 {
-    first_of(processors_refusal(processors), room_refusal(room, need))
+    let four = processors_refusal(processors);
+    let seven = room_refusal(room, need);
+    first_of(four, seven)
 }

@@ -8,10 +8,10 @@ ghost use mathlib.Core.Path.{_≡_};
 ghost use mathlib.Core.List.{_++_};
 ghost use Prim.Native.Nat.{_*_, _≤_, _<_, _^_};
 ghost use lib.ListN.{length, drop};
-ghost use Rattle.laws.specs.Fill.{listed};
+ghost use Rattle.laws.specs.Fill.{listed, atFront};
 ghost use Rattle.sheet.specs.Grammar.{rowsWritten};
 ghost use Rattle.sheet.specs.Lines.{wordWritten, wordsWritten};
-ghost use Rattle.sheet.specs.Sheets.{formedRefusal, readRefused, readAnswer, atFront};
+ghost use Rattle.sheet.specs.Sheets.{formedRefusal, readRefused, readAnswer};
 ghost use Rattle.sheet.specs.Inner.{LineOne};
 
 // What reading returns where it refuses.
@@ -44,10 +44,10 @@ pub(crate) fn copy_front(from: &[u32], to: &mut [u32])
     requires { ⌜ length (now from) ≤ length (now to) ⌝ }
     ensures { λ _. ⌜ now (to .exit) ≡ now (from .entry) ++ drop (length (now (from .entry))) (now (to .entry)) ⌝ }
 {
-    let mut word = 0;
-    while word < from.len() {
-        to[word] = from[word];
-        word += 1;
+    let mut copied = 0;
+    while copied < from.len() {
+        to[copied] = from[copied];
+        copied += 1;
     }
 }
 

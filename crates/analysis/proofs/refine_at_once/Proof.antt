@@ -7,7 +7,7 @@ use lib.Seq.{length-take-le}
 use Rattle.model.specs.Refine.{atOnce}
 use Rattle.rows.specs.declared.Refusal.{Refusal}
 use Rattle.analysis.specs.Refinement.{refineRefusal}
-use Rattle.analysis.proofs.Refinement.{Refining, refining, refine-refused, refine-answered}
+use Rattle.analysis.proofs.Refinement.{Refining, refining, at-once-length, refine-refused, refine-answered}
 use native.Mathlib.Omega.{arith}
 use Rattle.analysis.proofs.refine_at_once.Statement.{statement}
 use Rattle.analysis.proofs.refine_at_once.Tie as tie
@@ -58,7 +58,7 @@ returns-2 : tie.Need-returns-2
 returns-2 c =
     let run = c .before .before in
     refine-answered atOnce _ _ _ _ (passed (run .before .before .before)) _ _ _ (run .run-at-once .ensures .0) (run .run-at-once .ensures .1)
-    (run .before .before .row-count .ensures)
+    (ap length (run .run-at-once .ensures .1) ∙ at-once-length _ _ _ ∙ sym (run .before .before .row-count .ensures))
 
 pub refine-at-once-spec : {M : Type 1} → statement M
 refine-at-once-spec =

@@ -7,7 +7,7 @@ use lib.Seq.{length-take-le}
 use Rattle.model.specs.Refine.{rounds}
 use Rattle.rows.specs.declared.Refusal.{Refusal}
 use Rattle.analysis.specs.Refinement.{refineRefusal}
-use Rattle.analysis.proofs.Refinement.{Refining, refining, refine-refused, refine-answered}
+use Rattle.analysis.proofs.Refinement.{Refining, refining, rounds-length, refine-refused, refine-answered}
 use native.Mathlib.Omega.{arith}
 use Rattle.analysis.proofs.refine_rounds.Statement.{statement}
 use Rattle.analysis.proofs.refine_rounds.Tie as tie
@@ -58,7 +58,7 @@ returns-2 : tie.Need-returns-2
 returns-2 c =
     let run = c .before .before in
     refine-answered rounds _ _ _ _ (passed (run .before .before .before)) _ _ _ (run .run-rounds .ensures .0) (run .run-rounds .ensures .1)
-    (run .before .before .row-count .ensures)
+    (ap length (run .run-rounds .ensures .1) ∙ rounds-length _ _ _ ∙ sym (run .before .before .row-count .ensures))
 
 pub refine-rounds-spec : {M : Type 1} → statement M
 refine-rounds-spec =

@@ -1,6 +1,6 @@
 -- `answer_sheet` reads into 192 words, which every allowed sheet fits, and writes the line or the result that the answer is.
 use borrow.Author.Needs.{needs}
-use mathlib.Core.Path.{_≡_, refl, sym, _∙_, ap}
+use mathlib.Core.Path.{refl, sym, _∙_, ap}
 use mathlib.Core.List.{List}
 use Prim.Native.Nat.{ℕ, _*_, _≤_}
 use lib.ListN.{replicate, length, take}
@@ -29,7 +29,7 @@ returns c =
     let s = c .before .before .before .before .before .before .before .before .before .before in
     let w = c .before .before in
     let told = refused-answer (now (s .args .bytes)) (now (s .args .out)) (w .before .before .before .before .read-sheet .result)
-        (w .before .before .before .before .read-sheet .ensures .0) (w .before .before .if1 .taken) in
+    (w .before .before .before .before .read-sheet .ensures .0) (w .before .before .if1 .taken) in
     (w .write-refusal .ensures .0 ∙ told .0, w .write-refusal .ensures .1 ∙ told .1)
 
 cast-end : tie.Need-cast-end
@@ -65,11 +65,12 @@ returns-2 c =
     let r = e .before .before .read-sheet in
     let s = e .before .before .before .before .before .before in
     let told = accepted-answer (now (s .args .bytes)) (replicate 192 0) refl (r .result) (r .ensures .0) (e .if1 .left) (now (s .args .out)) in
-    let w = c .before .before .write-result in
-    (w .ensures .0 ∙ ap (λ (l : List ℕ). writeResult (take (3 * r .result .rows) l) (r .result .processors) 1 (length (now (s .args .out)))) (r .ensures .1)
-    ∙ told .0,
-    w .ensures .1 ∙ ap (λ (l : List ℕ). resultAfter (take (3 * r .result .rows) l) (r .result .processors) 1 (now (s .args .out))) (r .ensures .1)
-    ∙ told .1)
+    let w = c .before .before .write-result in (
+      w .ensures .0 ∙ ap (λ (l : List ℕ). writeResult (take (3 * r .result .rows) l) (r .result .processors) 1 (length (now (s .args .out)))) (r .ensures .1)
+          ∙ told .0,
+      w .ensures .1 ∙ ap (λ (l : List ℕ). resultAfter (take (3 * r .result .rows) l) (r .result .processors) 1 (now (s .args .out))) (r .ensures .1)
+          ∙ told .1,
+    )
 
 pub answer-sheet-spec : {M : Type 1} → statement M
 answer-sheet-spec =

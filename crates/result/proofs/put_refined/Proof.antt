@@ -1,6 +1,6 @@
 -- `put_refined` refines into 64 words, which is not refused, and writes what that says.
 use borrow.Author.Needs.{needs}
-use mathlib.Core.Path.{_≡_, _∙_, sym}
+use mathlib.Core.Path.{_∙_}
 use lib.ListN.{replicate}
 use denote.Ref.{now}
 use Rattle.analysis.proofs.Refinement.{refining}

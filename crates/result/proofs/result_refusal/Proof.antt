@@ -1,6 +1,6 @@
 -- `result_refusal` hands its own checks, in number order, to the shared ones. A list of words is short enough that its result's length fits.
 use borrow.Author.Needs.{needs}
-use mathlib.Core.Path.{_≡_, _∙_, ap}
+use mathlib.Core.Path.{_≡_, ap}
 use Prim.Native.Nat.{ℕ, _+_, _*_, _/_}
 use lib.ListN.{length}
 use Rattle.rows.specs.Words.{rowCount}

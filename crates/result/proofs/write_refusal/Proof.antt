@@ -1,19 +1,19 @@
 -- `write_refusal` has one line of nine bytes to write, if there is room for it.
 use borrow.Author.Needs.{needs}
-use mathlib.Core.Path.{_≡_, sym, _∙_, ap, ap₂}
+use mathlib.Core.Path.{_≡_, sym, _∙_, ap₂}
 use mathlib.Core.List.{List, _++_}
-use Prim.Native.Nat.{ℕ, _<_, _≤_}
-use borrow.Author.Tests.{lt-ltb, le-ltb}
+use Prim.Native.Nat.{ℕ, _<_}
+use borrow.Author.Tests.{lt-ltb}
 use lib.ListN.{length, take, drop}
 use lib.Seq.{length-take-le}
 use Rattle.laws.proofs.Choice.{pick-yes}
 use Rattle.rows.specs.Checks.{refused, roomRefusal}
 use Rattle.rows.proofs.Checks.{enough-room}
-use Rattle.sheet.specs.Sheets.{writeAnswer, atFront}
-use Rattle.sheet.proofs.Refusals.{front-left, front-put, write-refused, write-accepted}
+use Rattle.sheet.proofs.Refusals.{write-refused, write-accepted}
 use Rattle.result.specs.Lines.{refusalLine}
 use Rattle.result.proofs.Text.{refusal-length}
 use native.Mathlib.Omega.{arith}
+use Rattle.laws.proofs.Fill.{front-left, front-put}
 use Rattle.result.proofs.write_refusal.Statement.{statement}
 use Rattle.result.proofs.write_refusal.Tie as tie
 
@@ -50,10 +50,11 @@ unfolding refusalLine
 returns-2 c =
     let e = c .before .before .before .before in
     let a = e .before .before .args in
-    let none-holds = enough-room (length (a .out .now)) 9 (e .if1 .left) in
-    (write-accepted (refused (roomRefusal (length (a .out .now)) 9) 0) 9 none-holds,
-    ap₂ (λ (l : List ℕ) (n : ℕ). l ++ drop n (a .out .now)) (c .before .before .put-line .ensures) (sym (refusal-length (a .number) (a .place)))
-    ∙ front-put (roomRefusal (length (a .out .now)) 9) (refusalLine (a .number) (a .place)) (a .out .now) none-holds)
+    let none-holds = enough-room (length (a .out .now)) 9 (e .if1 .left) in (
+      write-accepted (refused (roomRefusal (length (a .out .now)) 9) 0) 9 none-holds,
+      ap₂ (λ (l : List ℕ) (n : ℕ). l ++ drop n (a .out .now)) (c .before .before .put-line .ensures) (sym (refusal-length (a .number) (a .place)))
+          ∙ front-put (roomRefusal (length (a .out .now)) 9) (refusalLine (a .number) (a .place)) (a .out .now) none-holds,
+    )
 
 pub write-refusal-spec : {M : Type 1} → statement M
 write-refusal-spec =

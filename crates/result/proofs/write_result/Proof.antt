@@ -2,18 +2,20 @@
 use borrow.Author.Needs.{needs}
 use mathlib.Core.Path.{_≡_, sym, _∙_, ap, ap₂}
 use mathlib.Core.List.{List, _++_}
-use Prim.Native.Nat.{ℕ, _+_, _*_, _≤_}
+use Prim.Native.Nat.{ℕ, _+_, _*_}
 use lib.ListN.{length, take, drop}
 use lib.Seq.{length-take-le}
 use Rattle.rows.specs.declared.Refusal.{Refusal}
 use Rattle.rows.specs.Words.{rowCount}
 use Rattle.sheet.specs.declared.Written.{Written}
-use Rattle.sheet.specs.Sheets.{writeAnswer, atFront}
-use Rattle.sheet.proofs.Refusals.{front-left, front-put, write-refused, write-accepted}
+use Rattle.sheet.specs.Sheets.{writeAnswer}
+use Rattle.sheet.proofs.Refusals.{write-refused, write-accepted}
 use Rattle.result.specs.Lines.{head, line, resultLength}
 use Rattle.result.specs.Result.{resultOf, resultRefusal, writeResult, resultAfter}
 use Rattle.result.proofs.Entries.{Writable, writable, refines, result-of-length}
 use native.Mathlib.Omega.{arith}
+use Rattle.laws.specs.Fill.{atFront}
+use Rattle.laws.proofs.Fill.{front-left, front-put}
 use Rattle.result.proofs.write_result.Statement.{statement}
 use Rattle.result.proofs.write_result.Tie as tie
 
@@ -28,11 +30,12 @@ returns : tie.Need-returns
 unfolding writeResult resultAfter
 returns c =
     let q = c .before in
-    let a = start q .args in
-    (write-refused (q .result-refusal .result) (resultLength (rowCount (a .words .now))) (c .if1 .taken)
-    ∙ ap (λ (f : Refusal). writeAnswer f (resultLength (rowCount (a .words .now)))) (q .result-refusal .ensures),
-    front-left (q .result-refusal .result .number) (resultOf (a .words .now) (a .processors) (a .method)) (a .out .now) (c .if1 .taken)
-    ∙ ap (λ (f : Refusal). atFront (f .number) (resultOf (a .words .now) (a .processors) (a .method)) (a .out .now)) (q .result-refusal .ensures))
+    let a = start q .args in (
+      write-refused (q .result-refusal .result) (resultLength (rowCount (a .words .now))) (c .if1 .taken)
+          ∙ ap (λ (f : Refusal). writeAnswer f (resultLength (rowCount (a .words .now)))) (q .result-refusal .ensures),
+      front-left (q .result-refusal .result .number) (resultOf (a .words .now) (a .processors) (a .method)) (a .out .now) (c .if1 .taken)
+          ∙ ap (λ (f : Refusal). atFront (f .number) (resultOf (a .words .now) (a .processors) (a .method)) (a .out .now)) (q .result-refusal .ensures),
+    )
 
 row-count-requires : tie.Need-row-count-requires
 row-count-requires c κs = search needs
@@ -90,12 +93,13 @@ returns-2 c =
     let r = c .before .before .before .before in
     let a = start (r .before .before) .args in
     let text = resultOf (a .words .now) (a .processors) (a .method) in
-    let none-holds = passed (r .before) in
-    (ap (λ (n : ℕ). let w : Written = record { refusal = 0; place = 0; length = n } in w) (size r)
-    ∙ write-accepted (resultRefusal (a .words .now) (a .processors) (a .method) (length (a .out .now))) (resultLength (rowCount (a .words .now))) none-holds,
-    ap₂ (λ (l : List ℕ) (n : ℕ). l ++ drop n (a .out .now)) (c .before .before .put-refined .ensures)
-    (size r ∙ sym (result-of-length (a .words .now) (a .processors) (a .method)))
-    ∙ front-put _ text (a .out .now) none-holds)
+    let none-holds = passed (r .before) in (
+      ap (λ (n : ℕ). let w : Written = record { refusal = 0; place = 0; length = n } in w) (size r)
+          ∙ write-accepted (resultRefusal (a .words .now) (a .processors) (a .method) (length (a .out .now))) (resultLength (rowCount (a .words .now))) none-holds,
+      ap₂ (λ (l : List ℕ) (n : ℕ). l ++ drop n (a .out .now)) (c .before .before .put-refined .ensures)
+          (size r ∙ sym (result-of-length (a .words .now) (a .processors) (a .method)))
+          ∙ front-put _ text (a .out .now) none-holds,
+    )
 
 pub write-result-spec : {M : Type 1} → statement M
 write-result-spec =

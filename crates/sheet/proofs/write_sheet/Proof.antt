@@ -6,15 +6,17 @@ use native.Mathlib.Omega.{arith}
 use borrow.Author.Needs.{needs}
 use lib.ListN.{length, take, drop}
 use lib.Seq.{length-take-le}
+use Rattle.laws.specs.Fill.{atFront}
+use Rattle.laws.proofs.Fill.{front-left, front-put}
 use Rattle.rows.specs.declared.Refusal.{Refusal}
 use Rattle.rows.specs.Words.{rowCount, sheetOf}
 use Rattle.rows.specs.Checks.{wordsRefusal}
 use Rattle.rows.proofs.Words.{sheet-rows}
 use Rattle.sheet.specs.Grammar.{head, line, sheetLength}
 use Rattle.sheet.specs.Lines.{sheetBytes}
-use Rattle.sheet.specs.Sheets.{betweenRefusal, writeRefusal, writeAnswer, atFront, writeSheet, bytesAfter}
+use Rattle.sheet.specs.Sheets.{betweenRefusal, writeRefusal, writeAnswer, writeSheet, bytesAfter}
 use Rattle.sheet.proofs.Lines.{sheet-bytes-length}
-use Rattle.sheet.proofs.Refusals.{Passed, passed, front-left, front-put, write-refused, write-accepted}
+use Rattle.sheet.proofs.Refusals.{Passed, passed, write-refused, write-accepted}
 use Rattle.sheet.proofs.write_sheet.Statement.{statement}
 use Rattle.sheet.proofs.write_sheet.Tie as tie
 

@@ -1,7 +1,7 @@
 -- `bound_allowed` makes the definition's two tests, in their order.
 use borrow.Author.Needs.{needs}
-use mathlib.Core.Path.{_≡_, sym, _∙_, ap}
-use Prim.Native.Nat.{ℕ, _≤_, _<_}
+use mathlib.Core.Path.{sym, _∙_, ap}
+use Prim.Native.Nat.{_≤_, _<_}
 use lib.Dec.{leb}
 use lib.ListN.{getD}
 use denote.Ref.{now}

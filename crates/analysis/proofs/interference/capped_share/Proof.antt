@@ -4,7 +4,6 @@ use denote.Ref.{now}
 use mathlib.Core.Path.{_≡_}
 use Prim.Native.Nat.{ℕ, _+_, _-_, min}
 use Rattle.model.specs.Interference.{share, shareOf, bclTerm}
-use Rattle.rows.specs.Words.{sheetOf}
 use Rattle.rows.proofs.Checks.{sound-row}
 use borrow.Author.Needs.{needs}
 use Rattle.analysis.proofs.interference.capped_share.Statement.{statement}

@@ -1,9 +1,9 @@
 -- `fill_shares` stores each row's term behind those before it, until all are listed.
 use borrow.Author.Needs.{needs}
 use mathlib.Core.Path.{_≡_, _∙_, sym, ap}
-use mathlib.Core.List.{List, _++_}
-use Prim.Native.Nat.{ℕ, _+_, _-_, _≤_, _<_}
-use lib.ListN.{length, drop, set, length-set}
+use mathlib.Core.List.{_++_}
+use Prim.Native.Nat.{_-_, _≤_}
+use lib.ListN.{length, drop, length-set}
 use denote.Ref.{now}
 use Rattle.laws.specs.Sum.{unless}
 use Rattle.laws.specs.Fill.{listed}

@@ -1,7 +1,5 @@
 -- `bound_or` goes by the cases of the answer.
 use borrow.Author.Needs.{needs}
-use mathlib.Core.Path.{_≡_, sym, _∙_, ap}
-use Rattle.rows.specs.declared.Found.{Found}
 use Rattle.analysis.specs.Inner.{boundOr}
 use Rattle.analysis.proofs.passes.bound_or.Statement.{statement}
 use Rattle.analysis.proofs.passes.bound_or.Tie as tie

@@ -1,9 +1,6 @@
 -- `round_rows` fills in every turn from the bounds at its start, and copies them back.
 use borrow.Author.Needs.{needs}
-use mathlib.Core.Path.{_≡_, _∙_}
 use denote.Ref.{now}
-use Rattle.rows.specs.Words.{sheetOf}
-use Rattle.analysis.specs.Refinement.{askOf}
 use Rattle.analysis.proofs.Steps.{ask-regular, round-done}
 use Rattle.analysis.proofs.passes.round_rows.Statement.{statement}
 use Rattle.analysis.proofs.passes.round_rows.Tie as tie

@@ -1,6 +1,5 @@
 -- `run_at_once` starts from the deadlines, which are ready and hold what bounds on the way hold.
 use borrow.Author.Needs.{needs}
-use mathlib.Core.Path.{_≡_, sym}
 use denote.Ref.{now}
 use Rattle.model.proofs.Refine.{deadlines-held}
 use Rattle.rows.specs.Words.{sheetOf}

@@ -1,6 +1,6 @@
 -- `run_rounds` starts from the deadlines, which are ready and hold what bounds on the way hold.
 use borrow.Author.Needs.{needs}
-use mathlib.Core.Path.{_≡_, sym}
+use mathlib.Core.Path.{sym}
 use denote.Ref.{now}
 use lib.ListN.{replicate}
 use lib.Seq.{length-take-le}

@@ -1,13 +1,12 @@
 -- `settle_at_once` keeps what bounds on the way hold; each sweep that moves lowers their sum, and one that does not has reached the end.
-use mathlib.Core.Path.{_≡_, sym, _∙_, ap}
+use mathlib.Core.Path.{sym, _∙_, ap}
 use denote.Ref.{now}
 use borrow.Author.Tests.{not-true, not-false}
-use mathlib.Core.List.{List}
 use Prim.Native.Nat.{ℕ}
 use Rattle.model.specs.Refine.{sweep}
-use Rattle.model.proofs.Refine.{Held, Pass, sweep-pass}
+use Rattle.model.proofs.Refine.{Held, sweep-pass}
 use Rattle.model.proofs.Engines.{sweep-settled}
-use Rattle.rows.specs.Words.{sheetOf, rowCount}
+use Rattle.rows.specs.Words.{sheetOf}
 use Rattle.rows.proofs.Words.{sheet-rows}
 use Rattle.analysis.specs.Refinement.{askOf}
 use Rattle.analysis.specs.Inner.{Ready, boundsSum}

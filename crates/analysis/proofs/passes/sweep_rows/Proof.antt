@@ -1,15 +1,13 @@
 -- `sweep_rows` stands where a sweep stands before each row, and one turn takes it on.
 use borrow.Author.Needs.{needs}
-use mathlib.Core.Path.{_≡_, _∙_, sym, ap}
+use mathlib.Core.Path.{_≡_, _∙_, sym}
 use mathlib.Core.Logic.{⊎-elim, inl, inr}
-use Prim.Native.Nat.{ℕ, _+_, _-_, _≤_, _<_}
+use Prim.Native.Nat.{_-_}
 use lib.ListN.{length, length-set}
 use denote.Ref.{now}
-use Rattle.model.specs.Refine.{sweep}
 use Rattle.rows.specs.Words.{rowCount, sheetOf}
 use Rattle.rows.proofs.Words.{sheet-rows}
 use Rattle.analysis.specs.Refinement.{askOf}
-use Rattle.analysis.specs.Inner.{AfterPass}
 use Rattle.analysis.proofs.Steps.{Sweeping, turn-found, ready-lower, sweep-start, sweep-end, sweeping-held, sweeping-below, sweep-on, ask-regular}
 use native.Mathlib.Omega.{arith}
 use Rattle.analysis.proofs.passes.sweep_rows.Statement.{statement}

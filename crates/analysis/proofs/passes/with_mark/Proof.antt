@@ -1,6 +1,6 @@
 -- `with_mark` sets a bit above all those seen, so that or is plus.
 use borrow.Author.Needs.{needs}
-use mathlib.Core.Path.{_≡_, sym, _∙_, ap}
+use mathlib.Core.Path.{_≡_, _∙_}
 use Prim.Native.Nat.{ℕ, _+_, _*_, _^_, _%_, _<_}
 use native.Mathlib.Nat.{add-comm}
 use lib.Pow.{shl-exact}

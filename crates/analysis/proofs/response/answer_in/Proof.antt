@@ -1,6 +1,6 @@
 -- `answer_in` prepares the shares and hands the row to the method that its number names.
 use borrow.Author.Needs.{needs}
-use mathlib.Core.Path.{_≡_, _∙_, sym, ap}
+use mathlib.Core.Path.{_∙_, sym, ap}
 use denote.Ref.{now}
 use Rattle.model.specs.Answer.{Method, answer}
 use Rattle.model.proofs.Answer.{method-zero, method-other}

@@ -1,6 +1,6 @@
 -- `answer_row` lends the front of 64 words, which every allowed sheet fits.
 use borrow.Author.Needs.{needs}
-use mathlib.Core.Path.{_≡_, sym}
+use mathlib.Core.Path.{sym}
 use lib.ListN.{replicate}
 use lib.Seq.{length-take-le}
 use native.Mathlib.Omega.{arith}

@@ -1,13 +1,10 @@
 -- `bcl_row` is BCL's answer: the prepared shares sum up to the formula's, and the test is the definition's own.
 use borrow.Author.Needs.{needs}
-use mathlib.Core.Path.{_≡_, _∙_, sym, ap}
-use mathlib.Core.Option.{Option, none, some}
-use Prim.Native.Nat.{ℕ, _+_, _/_, _≤_, _<_}
+use mathlib.Core.Path.{sym, ap}
+use mathlib.Core.Option.{none, some}
 use native.Mathlib.Nat.{div-le-self}
 use denote.Ref.{now}
-use Rattle.model.specs.Sheet.{Sheet}
-use Rattle.model.specs.Interference.{bclValue}
-use Rattle.model.specs.Answer.{BCL, answer, bclAnswer}
+use Rattle.model.specs.Answer.{BCL, answer}
 use Rattle.model.proofs.Answer.{answer-fixed}
 use Rattle.rows.specs.Words.{sheetOf, foundOf}
 use Rattle.rows.proofs.Checks.{sound-row}

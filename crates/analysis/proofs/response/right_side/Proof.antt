@@ -1,9 +1,8 @@
 -- `right_side` is RTA's right side: the terms from the prepared shares sum up to it, within 65 millions.
 use borrow.Author.Needs.{needs}
-use Prim.Native.Nat.{ℕ, _+_, _-_, _/_, _≤_, _<_}
+use Prim.Native.Nat.{_+_, _-_, _≤_}
 use native.Mathlib.Nat.{div-le-self}
 use denote.Ref.{now}
-use Rattle.rows.specs.Words.{sheetOf}
 use Rattle.rows.proofs.Checks.{sound-row}
 use Rattle.analysis.proofs.Shares.{prepared-length, terms-sum-small, right-from-terms}
 use native.Mathlib.Omega.{arith}

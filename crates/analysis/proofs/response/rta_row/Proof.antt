@@ -1,7 +1,7 @@
 -- `rta_row` climbs from the cost: it stands where a climb stands, and each exit is a law of the climb. What is left to the deadline falls.
 use borrow.Author.Needs.{needs}
-use mathlib.Core.Path.{_≡_, _∙_, sym, ap}
-use Prim.Native.Nat.{ℕ, _-_, _≤_, _<_}
+use mathlib.Core.Path.{_∙_, sym, ap}
+use Prim.Native.Nat.{_-_, _≤_}
 use denote.Ref.{now}
 use Rattle.laws.proofs.Climb.{Climbed, climbed-first, climbed-more}
 use Rattle.model.specs.Interference.{rtaRight}

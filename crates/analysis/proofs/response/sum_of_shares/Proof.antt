@@ -1,7 +1,7 @@
 -- `sum_of_shares` is the sum over the places passed; 64 terms of at most a million fit.
 use borrow.Author.Needs.{needs}
 use mathlib.Core.Path.{_≡_, refl, _∙_, ap}
-use Prim.Native.Nat.{ℕ, _+_, _*_, _-_, _≤_, _<_}
+use Prim.Native.Nat.{_*_, _-_, _≤_}
 use lib.ListN.{getD}
 use denote.Ref.{now}
 use Rattle.laws.specs.Sum.{total}

@@ -1,6 +1,6 @@
 -- A whole result sheet: line one is put in front, and the rows are put into the part behind it.
 use borrow.Author.Needs.{needs}
-use Prim.Native.Nat.{ℕ, _+_, _*_, _-_, _≤_}
+use Prim.Native.Nat.{ℕ, _*_, _-_, _≤_}
 use mathlib.Core.Path.{_≡_, sym, _∙_, ap, ap₂}
 use mathlib.Core.List.{List, _++_}
 use lib.ListN.{length, drop, length-drop}

@@ -1,16 +1,16 @@
 -- One line a row: what stands in front is the rows' lines so far, and each line is put behind them.
 use borrow.Author.Needs.{needs}
-use Prim.Native.Nat.{ℕ, _+_, _*_, _-_, _≤_}
-use mathlib.Core.Path.{_≡_, refl, _∙_, ap}
+use Prim.Native.Nat.{_+_, _*_, _-_, _≤_}
+use mathlib.Core.Path.{_≡_, refl}
 use mathlib.Core.List.{_++_}
-use lib.ListN.{length, getD, drop, length-drop}
+use lib.ListN.{length, drop, length-drop}
 use lib.Seq.{length-take-le}
 use Rattle.laws.specs.Fill.{joined}
-use Rattle.sheet.proofs.Lines.{block-joined, blocks-kept, blocks-fill}
 use Rattle.result.specs.Lines.{line, rowLine}
 use Rattle.result.specs.Inner.{lineFrom}
 use Rattle.result.proofs.Text.{row-line-length, rows-length}
 use native.Mathlib.Omega.{arith}
+use Rattle.laws.proofs.Fill.{block-joined, blocks-kept, blocks-fill}
 use Rattle.result.proofs.lines.put_rows.Statement.{statement}
 use Rattle.result.proofs.lines.put_rows.Tie as tie
 

@@ -10,11 +10,11 @@ use Rattle.sheet.proofs.reader.copy_front.Statement.{statement}
 use Rattle.sheet.proofs.reader.copy_front.Tie as tie
 
 abbrev Inv-loop : tie.InvT-loop
-Inv-loop from to₀ word₀ to word =
-    (word ≤ length from) × (length to ≡ length to₀) × (to ≡ listed (λ i. getD from i 0) word ++ drop word to₀)
+Inv-loop from to₀ copied₀ to copied =
+    (copied ≤ length from) × (length to ≡ length to₀) × (to ≡ listed (λ i. getD from i 0) copied ++ drop copied to₀)
 
 abbrev μ-loop : tie.MeasureT-loop
-μ-loop from to₀ word₀ to word = length from - word
+μ-loop from to₀ copied₀ to copied = length from - copied
 
 loop-holds : tie.Need-loop-holds Inv-loop μ-loop
 loop-holds c = (omega arith, refl, listed-none _ _)
@@ -31,8 +31,8 @@ mul-to-2 c = omega arith
 slice-write-to : tie.Need-slice-write-to Inv-loop μ-loop
 slice-write-to c = omega arith
 
-add-word : tie.Need-add-word Inv-loop μ-loop
-add-word c = omega arith
+add-copied : tie.Need-add-copied Inv-loop μ-loop
+add-copied c = omega arith
 
 loop-less : tie.Need-loop-less Inv-loop μ-loop
 loop-less c = omega arith
@@ -43,7 +43,7 @@ loop-again c =
     let q = c .before .before .loop in (
       omega arith,
       simp length-set (q .inv .1),
-      listed-more (λ i. getD (p .from .now) i 0) (q .word) (p .to .now) (q .to) _ (omega arith) (q .inv .2) refl,
+      listed-more (λ i. getD (p .from .now) i 0) (q .copied) (p .to .now) (q .to) _ (omega arith) (q .inv .2) refl,
     )
 
 same-length : tie.Need-same-length Inv-loop μ-loop
@@ -53,7 +53,7 @@ returns : tie.Need-returns Inv-loop μ-loop
 returns c =
     let p = c .before .before .args in
     let q = c .before .loop in
-    let all : q .word ≡ length (p .from .now) = omega arith in
+    let all : q .copied ≡ length (p .from .now) = omega arith in
     q .inv .2 ∙ rw (all, listed-back (p .from .now) (length (p .from .now)) refl)
 
 pub copy-front-spec : {M : Type 1} → statement M
@@ -67,7 +67,7 @@ copy-front-spec =
     shared-slice-read-to
     mul-to-2
     slice-write-to
-    add-word
+    add-copied
     loop-less
     loop-again
     same-length

@@ -6,10 +6,11 @@ use native.Mathlib.Omega.{arith}
 use borrow.Author.Needs.{needs}
 use lib.ListN.{length, drop}
 use Rattle.laws.specs.Fill.{listed}
+use Rattle.laws.proofs.Fill.{front-put}
 use Rattle.sheet.specs.Grammar.{rowsWritten}
 use Rattle.sheet.specs.Lines.{wordWritten, wordsWritten}
 use Rattle.sheet.specs.Sheets.{formedRefusal}
-use Rattle.sheet.proofs.Refusals.{front-put, read-accepted, reading-refused, words-length, judged-words, formed-passed}
+use Rattle.sheet.proofs.Refusals.{read-accepted, reading-refused, words-length, judged-words, formed-passed}
 use Rattle.sheet.proofs.reader.judge.Statement.{statement}
 use Rattle.sheet.proofs.reader.judge.Tie as tie
 

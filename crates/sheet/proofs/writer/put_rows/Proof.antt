@@ -7,10 +7,11 @@ use borrow.Author.Needs.{needs}
 use lib.ListN.{length, drop, length-drop}
 use lib.Seq.{length-take-le}
 use Rattle.laws.specs.Fill.{joined}
+use Rattle.laws.proofs.Fill.{block-joined, blocks-kept, blocks-fill}
 use Rattle.rows.specs.Words.{sheetOf}
 use Rattle.sheet.specs.Grammar.{line}
 use Rattle.sheet.specs.Lines.{lineOf}
-use Rattle.sheet.proofs.Lines.{row-line-length, rows-length, block-joined, blocks-kept, blocks-fill}
+use Rattle.sheet.proofs.Lines.{row-line-length, rows-length}
 use Rattle.sheet.proofs.writer.put_rows.Statement.{statement}
 use Rattle.sheet.proofs.writer.put_rows.Tie as tie
 

@@ -7,11 +7,12 @@ use borrow.Author.Needs.{needs}
 use lib.ListN.{length, drop, length-drop}
 use lib.Seq.{length-take-le}
 use Rattle.laws.specs.Fill.{joined}
+use Rattle.laws.proofs.Fill.{front-kept}
 use Rattle.rows.specs.Words.{rowCount, sheetOf}
 use Rattle.rows.proofs.Words.{sheet-rows}
 use Rattle.sheet.specs.Grammar.{head, line, sheetLength}
 use Rattle.sheet.specs.Lines.{firstLine, lineOf}
-use Rattle.sheet.proofs.Lines.{first-line-length, first-line-kept, sheet-put}
+use Rattle.sheet.proofs.Lines.{first-line-length, sheet-put}
 use Rattle.sheet.proofs.writer.put_sheet.Statement.{statement}
 use Rattle.sheet.proofs.writer.put_sheet.Tie as tie
 
@@ -55,9 +56,8 @@ first-line c =
 -- With line one in front the output has the length that it came with: that of the sheet.
 kept : (c : tie.After-put-first-line) → length (c .put-first-line .last .0 ++ drop head (start c .args .out .now)) ≡ length (start c .args .out .now)
 kept c =
-    first-line-kept (c .put-first-line .last .0) (start c .args .out .now) (rowCount (start c .args .words .now))
-    (ap length (first-line c) ∙ first-line-length (start c .args .processors) ((sheetOf (start c .args .words .now)) .rows))
-    (start c .pre .1)
+    front-kept (c .put-first-line .last .0) (start c .args .out .now) head
+    (ap length (first-line c) ∙ first-line-length (start c .args .processors) ((sheetOf (start c .args .words .now)) .rows)) (room (start c))
 
 sub-put-rows : tie.Need-sub-put-rows
 unfolding head

@@ -1,4 +1,4 @@
--- Lists cut anywhere: laws that speak of no sheet. A listing is its pieces one behind the other, and a test that holds along a list holds
+-- Lists cut anywhere: a listing is its pieces one behind the other, and a test that holds along a list holds
 -- at each place of it. By induction on the length.
 use mathlib.Core.Path.{_≡_, refl, sym, _∙_, ap₂}
 use mathlib.Core.Bool.{Bool, true, _&&_}
