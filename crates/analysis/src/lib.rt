@@ -25,6 +25,7 @@ pub struct OneRow {
 }
 
 // The answer of a refinement: a refusal's number and place, or 0, 0 and the marks.
+#[repr(C)]
 pub struct Refined {
     pub refusal: u32,
     pub place: u32,

@@ -13,6 +13,7 @@ ghost use lib.ListN.{length};
 ghost use Rattle.sheet.specs.Sheets.{readSheet, wordsAfter, writeSheet, bytesAfter};
 
 // What reading a sheet returns: the refusal's number and place, or 0 and 0 with the processors and the row count.
+#[repr(C)]
 pub struct Read {
     pub refusal: u32,
     pub place: u32,
@@ -21,6 +22,7 @@ pub struct Read {
 }
 
 // What writing a sheet returns: the refusal's number and place, or 0 and 0 with the number of bytes written.
+#[repr(C)]
 pub struct Written {
     pub refusal: u32,
     pub place: u32,

@@ -1,0 +1,63 @@
+-- Nothing is lost in numbers. A bound is at least its row's cost, so 0 is left for none; the cases of an outcome have different numbers.
+use mathlib.Core.Path.{_≡_, refl, ap}
+use mathlib.Core.List.{List}
+use Prim.Native.Nat.{ℕ, _≤_}
+use native.Mathlib.Decide.{ℕ-discrete}
+use native.Mathlib.Omega.{arith}
+use Rattle.model.specs.Answer.{methodOf}
+use Rattle.model.proofs.Methods.{answer-regular}
+use Rattle.rows.specs.declared.Found.{Found}
+use Rattle.rows.specs.declared.Found.the-variants.{At, Nowhere}
+use Rattle.rows.specs.Words.{sheetOf}
+use Rattle.rows.proofs.Words.{found-some}
+use Rattle.rows.proofs.Checks.{sound-row}
+use Rattle.analysis.specs.declared.OneRow.{OneRow}
+use Rattle.analysis.specs.Question.{oneRowRefusal, oneRow, boundNumber}
+use Rattle.analysis.proofs.Question.{asked, one-row-answered, one-row-refused}
+use Rattle.demand.specs.declared.Answer.{Answer}
+use Rattle.demand.proofs.Promised.{numbers-fix}
+use Rattle.board.specs.declared.RowNumbers.{RowNumbers}
+use Rattle.board.specs.declared.OutcomeNumbers.{OutcomeNumbers}
+use Rattle.board.specs.Face.{rowInNumbers, outcomeInNumbers}
+
+-- A bound that is answered is not 0.
+abbrev pub Positive : Found → Type 0
+Positive found = (bound : ℕ) → found ≡ At bound → 1 ≤ bound
+
+-- The entry answers no bound of 0.
+pub bound-positive : (words : List ℕ) (m method : ℕ) (R : List ℕ) (row : ℕ) → Positive ((oneRow words m method R row) .answer)
+bound-positive words m method R row = decided (ℕ-discrete ((oneRowRefusal words m method R row) .number) 0)
+  where
+    decided : Dec ((oneRowRefusal words m method R row) .number ≡ 0) → Positive ((oneRow words m method R row) .answer)
+    decided (yes zero) =
+        rw (one-row-answered words m method R row zero)
+        (λ bound found.
+        let known = asked words m method R row zero in
+        let from-cost = answer-regular (methodOf method) (sheetOf words) m .within row R bound (found-some _ bound found) in
+        omega (arith, from-cost .0, sound-row words (known .ready .rows) row (known .there) .positive))
+    decided (no one-refused) =
+        rw (one-row-refused words m method R row (oneRowRefusal words m method R row) refl one-refused)
+        (λ bound found. let clash : _≡_ {A = ℕ} 0 1 = cc in absurd (omega arith))
+
+-- So the number of an answer fixes it.
+bound-fixed : (f g : Found) → Positive f → Positive g → boundNumber f ≡ boundNumber g → f ≡ g
+unfolding boundNumber
+bound-fixed (At b) (At c) some-bound other-bound same = ap At same
+bound-fixed (At b) Nowhere some-bound other-bound same = absurd (omega (arith, some-bound b refl))
+bound-fixed Nowhere (At c) some-bound other-bound same = absurd (omega (arith, other-bound c refl))
+bound-fixed Nowhere Nowhere some-bound other-bound same = refl
+
+-- Answers to the one-row question that are told in the same numbers are the same.
+pub row-fixed : (r q : OneRow) → Positive (r .answer) → Positive (q .answer) → rowInNumbers r ≡ rowInNumbers q → r ≡ q
+unfolding rowInNumbers
+row-fixed r q r-positive q-positive same =
+    let answers = bound-fixed (r .answer) (q .answer) r-positive q-positive (ap (λ (n : RowNumbers). n .bound) same) in
+    λ i. record { refusal = (same i) .refusal; place = (same i) .place; answer = answers i }
+
+-- Answers of the exact test that are told in the same numbers are the same.
+pub outcome-fixed : (r q : Answer) → outcomeInNumbers r ≡ outcomeInNumbers q → r ≡ q
+unfolding outcomeInNumbers
+outcome-fixed r q same =
+    let outcomes =
+    numbers-fix (r .outcome) (q .outcome) (ap (λ (n : OutcomeNumbers). n .outcome) same) (ap (λ (n : OutcomeNumbers). n .length) same) in
+    λ i. record { refusal = (same i) .refusal; place = (same i) .place; outcome = outcomes i }

@@ -1,0 +1,21 @@
+-- The C face: an answer that holds an enum is told in numbers alone. Refusal and place stay what they are.
+use Rattle.analysis.specs.declared.OneRow.{OneRow}
+use Rattle.analysis.specs.Question.{boundNumber}
+use Rattle.demand.specs.declared.Answer.{Answer}
+use Rattle.demand.specs.OneProcessor.{outcomeNumber, outcomeValue}
+use Rattle.board.specs.declared.RowNumbers.{RowNumbers}
+use Rattle.board.specs.declared.OutcomeNumbers.{OutcomeNumbers}
+
+-- The answer to the one-row question: the bound, or 0 for none.
+unfoldable pub rowInNumbers : OneRow → RowNumbers
+rowInNumbers said = record { refusal = said .refusal; place = said .place; bound = boundNumber (said .answer) }
+
+-- The answer of the exact test: undecided is 0 and 0, miss t is 1 and t, fits b is 2 and b.
+unfoldable pub outcomeInNumbers : Answer → OutcomeNumbers
+outcomeInNumbers said =
+    record {
+      refusal = said .refusal;
+      place = said .place;
+      outcome = outcomeNumber (said .outcome);
+      length = outcomeValue (said .outcome);
+    }

@@ -1,0 +1,149 @@
+// The C face: one exported function for each public entry, on numbers and lent slices. Nothing is worked out here.
+mod cases;
+
+use analysis::Refined;
+use analysis::one_row;
+use analysis::refine_at_once;
+use analysis::refine_rounds;
+use cases::bound_number;
+use cases::outcome_number;
+use cases::outcome_value;
+use demand::one_processor;
+use result::answer_sheet;
+use result::write_result;
+use sheet::Read;
+use sheet::Written;
+use sheet::read_sheet;
+use sheet::write_sheet;
+ghost use mathlib.Core.Path.{_≡_};
+ghost use lib.ListN.{length};
+ghost use Rattle.model.specs.Refine.{rounds, atOnce};
+ghost use Rattle.analysis.specs.Question.{oneRow};
+ghost use Rattle.analysis.specs.Refinement.{refined, refinedWords};
+ghost use Rattle.demand.specs.OneProcessor.{oneProcessor};
+ghost use Rattle.sheet.specs.Sheets.{readSheet, wordsAfter, writeSheet, bytesAfter};
+ghost use Rattle.result.specs.Result.{writeResult, resultAfter, answerSheet, answerAfter};
+ghost use Rattle.board.specs.Face.{rowInNumbers, outcomeInNumbers};
+
+// The answer to the one-row question in numbers: the bound is 0 where there is none.
+#[repr(C)]
+pub struct RowNumbers {
+    pub refusal: u32,
+    pub place: u32,
+    pub bound: u32,
+}
+
+// The answer of the exact test in numbers: outcome 0 is undecided, 1 a miss, 2 fits; the length is 0, the least that misses, or the busy length.
+#[repr(C)]
+pub struct OutcomeNumbers {
+    pub refusal: u32,
+    pub place: u32,
+    pub outcome: u32,
+    pub length: u32,
+}
+
+// One row's answer under given bounds.
+#[no_mangle]
+pub extern "C" fn circuitrail_one_row(
+    words: &[u32],
+    processors: u32,
+    method: u32,
+    bounds: &[u32],
+    row: u32,
+) -> RowNumbers
+    ensures { λ r. ⌜ r ≡ rowInNumbers (oneRow (now (words .entry)) processors method (now (bounds .entry)) row) ⌝ }
+{
+    let answered = one_row(words, processors, method, bounds, row);
+    let answer = answered.answer;
+    RowNumbers {
+        refusal: answered.refusal,
+        place: answered.place,
+        bound: bound_number(answer),
+    }
+}
+
+// The whole sheet refined by the rounds engine, its final bounds written to the front of the lent words.
+#[no_mangle]
+pub extern "C" fn circuitrail_refine_rounds(
+    words: &[u32],
+    processors: u32,
+    method: u32,
+    bounds: &mut [u32],
+) -> Refined
+    ensures answered { λ r. ⌜ r ≡ refined rounds (now (words .entry)) processors method (length (now (bounds .entry))) ⌝ }
+    ensures written { λ r. ⌜ now (bounds .exit) ≡ refinedWords rounds (now (words .entry)) processors method (now (bounds .entry)) ⌝ }
+{
+    refine_rounds(words, processors, method, bounds)
+}
+
+// The same by the at-once engine.
+#[no_mangle]
+pub extern "C" fn circuitrail_refine_at_once(
+    words: &[u32],
+    processors: u32,
+    method: u32,
+    bounds: &mut [u32],
+) -> Refined
+    ensures answered { λ r. ⌜ r ≡ refined atOnce (now (words .entry)) processors method (length (now (bounds .entry))) ⌝ }
+    ensures written { λ r. ⌜ now (bounds .exit) ≡ refinedWords atOnce (now (words .entry)) processors method (now (bounds .entry)) ⌝ }
+{
+    refine_at_once(words, processors, method, bounds)
+}
+
+// Whether the rows fit on one processor, as far as the horizon shows.
+#[no_mangle]
+pub extern "C" fn circuitrail_one_processor(words: &[u32], horizon: u32) -> OutcomeNumbers
+    ensures { λ r. ⌜ r ≡ outcomeInNumbers (oneProcessor (now (words .entry)) horizon) ⌝ }
+{
+    let tested = one_processor(words, horizon);
+    let outcome = tested.outcome;
+    let number = outcome_number(outcome);
+    let length = outcome_value(outcome);
+    OutcomeNumbers {
+        refusal: tested.refusal,
+        place: tested.place,
+        outcome: number,
+        length: length,
+    }
+}
+
+// Reads a task sheet, its rows' words written to the front of the lent words.
+#[no_mangle]
+pub extern "C" fn circuitrail_read_sheet(bytes: &[u8], words: &mut [u32]) -> Read
+    ensures answered { λ r. ⌜ r ≡ readSheet (now (bytes .entry)) (length (now (words .entry))) ⌝ }
+    ensures written { λ r. ⌜ now (words .exit) ≡ wordsAfter (now (bytes .entry)) (now (words .entry)) ⌝ }
+{
+    read_sheet(bytes, words)
+}
+
+// Writes a task sheet to the front of the lent bytes.
+#[no_mangle]
+pub extern "C" fn circuitrail_write_sheet(words: &[u32], processors: u32, out: &mut [u8]) -> Written
+    ensures answered { λ r. ⌜ r ≡ writeSheet (now (words .entry)) processors (length (now (out .entry))) ⌝ }
+    ensures written { λ r. ⌜ now (out .exit) ≡ bytesAfter (now (words .entry)) processors (now (out .entry)) ⌝ }
+{
+    write_sheet(words, processors, out)
+}
+
+// Writes the result sheet of rows to the front of the lent bytes.
+#[no_mangle]
+pub extern "C" fn circuitrail_write_result(
+    words: &[u32],
+    processors: u32,
+    method: u32,
+    out: &mut [u8],
+) -> Written
+    ensures answered { λ r. ⌜ r ≡ writeResult (now (words .entry)) processors method (length (now (out .entry))) ⌝ }
+    ensures written { λ r. ⌜ now (out .exit) ≡ resultAfter (now (words .entry)) processors method (now (out .entry)) ⌝ }
+{
+    write_result(words, processors, method, out)
+}
+
+// Writes the whole answer to a sheet's bytes to the front of the lent bytes.
+#[no_mangle]
+pub extern "C" fn circuitrail_answer_sheet(bytes: &[u8], out: &mut [u8]) -> Written
+    ensures answered { λ r. ⌜ r ≡ answerSheet (now (bytes .entry)) (length (now (out .entry))) ⌝ }
+    ensures written { λ r. ⌜ now (out .exit) ≡ answerAfter (now (bytes .entry)) (now (out .entry)) ⌝ }
+{
+    answer_sheet(bytes, out)
+}

@@ -1,0 +1,190 @@
+/*
+ * Circuitrail: schedulability of task sheets, for C and C++. `rt staticlib board` makes the archive to link, target/staticlib/libboard.a.
+ *
+ * A row is a task: its cost C, its relative deadline D and its period T, in whole microseconds. Rows are lent as an array of words,
+ * three a row, C then D then T, row 0 first. Two rows with equal numbers are two rows.
+ *
+ * Sizes allowed: 1 to 64 rows, 1 to 64 processors, 1 <= C <= D <= T <= 1,000,000, a horizon of 1 to 16,777,216.
+ *
+ * Every function here
+ *   - takes each array as a pointer and the number of its elements; a pointer to no elements may be NULL;
+ *   - reads its input arrays and writes only to the array that its comment names as written; that one must not overlap the others;
+ *   - allocates nothing, keeps nothing between calls, and may be called from several threads at once; of its host it needs no more than
+ *     memcpy, memmove, memset and memcmp;
+ *   - answers every input that is so lent: it ends, does not stop the program, and has no way to fail but the refusals below. How long a
+ *     question takes depends on the rows, and no limit is promised.
+ *
+ * Every answer begins with `refusal` and `place`. Where `refusal` is 0 so is `place`, and the answer stands in the other fields and in
+ * the array written. Else `refusal` is the number of the first check that failed, in the order in which the function's comment lists
+ * its checks; every field but `refusal` and `place` is 0, and the array is left as it was.
+ */
+#ifndef CIRCUITRAIL_H
+#define CIRCUITRAIL_H
+
+#include <stddef.h>
+#include <stdint.h>
+
+#ifdef __cplusplus
+extern "C" {
+#endif
+
+/* Refusals, in the order in which they are checked. `place` is 0 unless stated. */
+enum {
+    CIRCUITRAIL_NOT_REFUSED = 0,
+    CIRCUITRAIL_REFUSED_FORM = 1,       /* the sheet's bytes break the line form; place: offset of the first wrong byte, or the length
+                                           where the sheet ends early */
+    CIRCUITRAIL_REFUSED_NO_ROWS = 2,    /* the words are none or not whole rows, or the sheet announces 0 rows */
+    CIRCUITRAIL_REFUSED_MANY_ROWS = 3,  /* more than 64 rows */
+    CIRCUITRAIL_REFUSED_PROCESSORS = 4, /* processors 0 or above 64 */
+    CIRCUITRAIL_REFUSED_METHOD = 5,     /* method above 1 */
+    CIRCUITRAIL_REFUSED_HORIZON = 6,    /* horizon 0 or above 16,777,216 */
+    CIRCUITRAIL_REFUSED_ROOM = 7,       /* the array to be written is shorter than the answer */
+    CIRCUITRAIL_REFUSED_ROW = 8,        /* a row outside the sizes allowed; place: the first such row */
+    CIRCUITRAIL_REFUSED_QUESTION = 9    /* row number or bounds of the one-row question do not fit the rows */
+};
+
+/* The most rows of a sheet, and the bytes of a task sheet and of a result sheet of n rows. */
+#define CIRCUITRAIL_MOST_ROWS 64
+#define CIRCUITRAIL_SHEET_BYTES(n) (7 + 21 * (n))
+#define CIRCUITRAIL_RESULT_BYTES(n) (7 + 11 * (n))
+
+/* Methods: two published tests for global EDF on equal processors. */
+enum {
+    CIRCUITRAIL_BCL = 0,
+    CIRCUITRAIL_RTA = 1
+};
+
+/* Outcomes of the exact test for one processor. */
+enum {
+    CIRCUITRAIL_UNDECIDED = 0,
+    CIRCUITRAIL_MISS = 1,
+    CIRCUITRAIL_FITS = 2
+};
+
+/* The answer to the one-row question. */
+typedef struct {
+    uint32_t refusal;
+    uint32_t place;
+    uint32_t bound; /* the row's response-time bound, from its C to its D; 0 where the method gives none */
+} circuitrail_row;
+
+/*
+ * One row's answer under given bounds of all rows.
+ *
+ * Row `row` of `words` is under question on `processors` processors by method `method`. `bounds` holds one bound a row, each from its
+ * row's C to its D; the row's own is checked too, though it does not count. By RTA the bound is the least X from C to D that equals C
+ * plus the interference of the other rows in a window of X; by BCL it is the formula's value, if it is at most D.
+ *
+ * Checks: 2, 3, 4, 5, 8, 9. Check 9 fails where `row` is not below the row count, where `bounds` is not one word a row, or where a bound
+ * lies outside its row's C to D.
+ */
+circuitrail_row circuitrail_one_row(const uint32_t *words, size_t words_length, uint32_t processors, uint32_t method,
+                                    const uint32_t *bounds, size_t bounds_length, uint32_t row);
+
+/* The answer of a refinement. */
+typedef struct {
+    uint32_t refusal;
+    uint32_t place;
+    uint64_t marks; /* bit k is set exactly if row k is marked; with n rows the sheet is accepted if the n lowest bits are all set */
+} circuitrail_refined;
+
+/*
+ * The whole sheet refined, by the engine that works in rounds: every row from the bounds at the start of the round, until a round
+ * changes nothing. All bounds begin at D. A row is marked if its one-row answer under the final bounds exists; its bound is then its
+ * response-time bound. A row that is not marked has its D.
+ *
+ * Written: the first n words of `bounds`, one bound a row, where n is the row count. Words behind them are left as they were.
+ *
+ * Checks: 2, 3, 4, 5, 7 (`bounds_length` below n), 8.
+ */
+circuitrail_refined circuitrail_refine_rounds(const uint32_t *words, size_t words_length, uint32_t processors, uint32_t method,
+                                              uint32_t *bounds, size_t bounds_length);
+
+/*
+ * The same by the engine that takes rows 0 upward and uses each new bound at once. Both engines return the same and write the same.
+ */
+circuitrail_refined circuitrail_refine_at_once(const uint32_t *words, size_t words_length, uint32_t processors, uint32_t method,
+                                               uint32_t *bounds, size_t bounds_length);
+
+/* The answer of the exact test for one processor. */
+typedef struct {
+    uint32_t refusal;
+    uint32_t place;
+    uint32_t outcome; /* CIRCUITRAIL_UNDECIDED, CIRCUITRAIL_MISS or CIRCUITRAIL_FITS */
+    uint32_t length;  /* miss: the least length whose demand is above it; fits: the busy length; undecided: 0 */
+} circuitrail_outcome;
+
+/*
+ * Whether the rows fit on one processor, by their demand, as far as lengths up to `horizon` show.
+ *
+ * A miss is the least length up to the horizon in which the rows demand more than the length. Fits: there is none up to the horizon, and
+ * the busy length is at most the horizon; then no length at all demands more than itself. Undecided: neither; ask again with a longer
+ * horizon.
+ *
+ * Checks: 2, 3, 6, 8.
+ */
+circuitrail_outcome circuitrail_one_processor(const uint32_t *words, size_t words_length, uint32_t horizon);
+
+/* What reading a task sheet returns. */
+typedef struct {
+    uint32_t refusal;
+    uint32_t place;
+    uint32_t processors; /* as the sheet's first line says */
+    uint32_t rows;       /* as the sheet's first line says */
+} circuitrail_read;
+
+/*
+ * Reads a task sheet. Its first line is `01`, processors (2 digits), rows (2 digits); then one line a row, `02` and C, D, T with 6 digits
+ * each. Digits are 0 to 9 and A to F, big end first; each line ends in one byte 0A, and nothing follows the last.
+ *
+ * Written: the first 3n words of `words`, C then D then T of each row, where n is the row count. 192 words of room are always enough.
+ *
+ * Checks: 1, 2, 3, 4, 7 (`words_length` below 3n), 8.
+ */
+circuitrail_read circuitrail_read_sheet(const uint8_t *bytes, size_t bytes_length, uint32_t *words, size_t words_length);
+
+/* What each function below returns. */
+typedef struct {
+    uint32_t refusal;
+    uint32_t place;
+    uint32_t length; /* bytes written */
+} circuitrail_written;
+
+/*
+ * Writes the task sheet of rows for `processors` processors, in the form that circuitrail_read_sheet reads.
+ *
+ * Written: the first CIRCUITRAIL_SHEET_BYTES(n) bytes of `out`, where n is the row count. No 0 byte ends them.
+ *
+ * Checks: 2, 3, 4, 7 (`out_length` below that), 8.
+ */
+circuitrail_written circuitrail_write_sheet(const uint32_t *words, size_t words_length, uint32_t processors,
+                                            uint8_t *out, size_t out_length);
+
+/*
+ * Writes the result sheet of rows on `processors` processors by method `method`: marks and bounds are those that
+ * circuitrail_refine_at_once gives. Its first line is `11`, `01` if every row is marked and else `00`, rows (2 digits); then one line a
+ * row, `12`, `01` if it is marked and else `00`, its bound (6 digits). Each line ends in one byte 0A.
+ *
+ * Written: the first CIRCUITRAIL_RESULT_BYTES(n) bytes of `out`, where n is the row count. No 0 byte ends them.
+ *
+ * Checks: 2, 3, 4, 5, 7 (`out_length` below that), 8.
+ */
+circuitrail_written circuitrail_write_result(const uint32_t *words, size_t words_length, uint32_t processors, uint32_t method,
+                                             uint8_t *out, size_t out_length);
+
+/*
+ * The whole answer to a task sheet's bytes, as the program gives it: the result sheet by RTA, or, where circuitrail_read_sheet with 192
+ * words of room refuses the sheet, one line, `1F`, that refusal's number (2 digits) and place (4 digits), and one byte 0A. Such a line is
+ * an answer: `refusal` is then 0 and `length` 9.
+ *
+ * Written: the answer at the front of `out`. CIRCUITRAIL_RESULT_BYTES(CIRCUITRAIL_MOST_ROWS) bytes of room are always enough.
+ *
+ * Checks: 7 (`out_length` below the answer's length).
+ */
+circuitrail_written circuitrail_answer_sheet(const uint8_t *bytes, size_t bytes_length, uint8_t *out, size_t out_length);
+
+#ifdef __cplusplus
+}
+#endif
+
+#endif
