@@ -1,0 +1,42 @@
+//! Measures the proved program against the same methods in Rust, and writes docs/BENCHMARKS.md to its output.
+//!
+//! speed          times and instructions of every case
+//! speed N SIDE   answers case N by a side once, for the instruction counter
+
+mod cases;
+mod counting;
+mod fast;
+mod plain;
+mod report;
+mod sides;
+mod timing;
+
+use cases::Case;
+use sides::Side;
+
+/// Every case in one list: those against Rust, then those that grow.
+fn all_cases() -> Vec<Case> {
+    let growing = cases::growing().into_iter().flat_map(|(_, cases)| cases);
+    cases::against_rust().into_iter().chain(growing).collect()
+}
+
+/// A side by its name.
+fn side_named(name: &str) -> Side {
+    match name {
+        "proved" => Side::Proved,
+        "rust" => Side::Rust,
+        _ => Side::Lengths,
+    }
+}
+
+fn main() {
+    let words: Vec<String> = std::env::args().collect();
+    match words.as_slice() {
+        [_, index, side] => {
+            let cases = all_cases();
+            let index: usize = index.parse().expect("a case's number");
+            println!("{}", sides::measured(&cases[index], side_named(side)));
+        }
+        _ => print!("{}", report::report()),
+    }
+}

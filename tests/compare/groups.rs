@@ -1,0 +1,149 @@
+//! The groups that checks are counted in: an entry, a kind of sheet, and right or wrong numbers; or a relation and a kind.
+
+use crate::calls::right_call;
+use crate::difference::compared;
+use crate::relations::{Relation, RELATIONS};
+use crate::show::difference_shown;
+use crate::spoil::spoiled;
+use second::call::{Call, Entry};
+use second::program::Program;
+use second::random::Random;
+use sheets::{Kind, KINDS};
+
+/// What a group looks at: an entry's answer against the second program's, or a relation between answers.
+#[derive(Clone, Copy)]
+enum Look {
+    Answer { wrong: bool },
+    Between(Relation),
+}
+
+/// A group of checks, and how many of them a round makes.
+#[derive(Clone, Copy)]
+pub struct Group {
+    entry: Entry,
+    kind: Kind,
+    look: Look,
+    pub checks: usize,
+}
+
+/// Every entry, by its name in words.
+pub const ENTRIES: [(Entry, &str); 8] = [
+    (Entry::OneRow, "one row"),
+    (Entry::RefineRounds, "refine in rounds"),
+    (Entry::RefineAtOnce, "refine at once"),
+    (Entry::OneProcessor, "one processor"),
+    (Entry::ReadSheet, "read a sheet"),
+    (Entry::WriteSheet, "write a sheet"),
+    (Entry::WriteResult, "write a result sheet"),
+    (Entry::AnswerSheet, "answer a sheet"),
+];
+
+/// An entry's name in words.
+pub fn entry_name(entry: Entry) -> &'static str {
+    let named = ENTRIES.iter().find(|(listed, _)| *listed == entry);
+    named.map_or("", |(_, name)| name)
+}
+
+/// Whether refining is part of an entry's answer.
+fn refines(entry: Entry) -> bool {
+    use Entry::*;
+    matches!(
+        entry,
+        RefineRounds | RefineAtOnce | WriteResult | AnswerSheet
+    )
+}
+
+/// The checks of a kind in a round: many where the second program is quick, few where it is slow.
+fn checks_of_kind(kind: Kind) -> usize {
+    match kind {
+        Kind::Tiny => 80,
+        Kind::Middle | Kind::Full | Kind::Counts => 20,
+        Kind::Climbing => 10,
+        Kind::Edges | Kind::Exponential => 5,
+        Kind::Light | Kind::Heavy => 3,
+        Kind::Far => 1,
+    }
+}
+
+/// The checks of an entry on a kind in a round. Lengths up to the largest horizon are for the one-processor test alone.
+fn checks_of_entry(entry: Entry, kind: Kind) -> usize {
+    match (entry, kind) {
+        (Entry::OneProcessor, Kind::Far) => 1,
+        (_, Kind::Far) => 0,
+        (_, Kind::Heavy) if refines(entry) => 1,
+        _ => checks_of_kind(kind),
+    }
+}
+
+/// The groups that hold entries against the second program.
+pub fn answer_groups() -> Vec<Group> {
+    let mut groups = Vec::new();
+    for (entry, _) in ENTRIES {
+        for kind in KINDS {
+            let checks = checks_of_entry(entry, kind);
+            groups.extend([false, true].map(|wrong| Group {
+                entry,
+                kind,
+                look: Look::Answer { wrong },
+                checks,
+            }));
+        }
+    }
+    groups.retain(|group| group.checks > 0);
+    groups
+}
+
+/// The groups that hold answers of the proved program against each other.
+pub fn relation_groups() -> Vec<Group> {
+    let mut groups = Vec::new();
+    for relation in RELATIONS {
+        for &kind in relation.kinds {
+            let checks = checks_of_kind(kind).div_ceil(4);
+            groups.push(Group {
+                entry: Entry::RefineAtOnce,
+                kind,
+                look: Look::Between(relation),
+                checks,
+            });
+        }
+    }
+    groups
+}
+
+impl Group {
+    /// A call of this group.
+    pub fn call(&self, random: &mut Random) -> Call {
+        let call = right_call(self.entry, self.kind, random);
+        match self.look {
+            Look::Answer { wrong: true } => spoiled(call, random),
+            _ => call,
+        }
+    }
+
+    /// What is wrong with a call, if something is: a difference from a second program, or a relation broken.
+    pub fn trouble(&self, program: &Program, call: &Call, random: &mut Random) -> Option<String> {
+        match self.look {
+            Look::Answer { .. } => difference_shown(&compared(program, call, random)),
+            Look::Between(relation) => (relation.broken)(call, random),
+        }
+    }
+
+    /// What the group is about: an entry, or a relation.
+    pub fn subject(&self) -> &'static str {
+        match self.look {
+            Look::Answer { .. } => entry_name(self.entry),
+            Look::Between(relation) => relation.name,
+        }
+    }
+
+    /// The group in words.
+    pub fn name(&self) -> String {
+        let kind = format!("{:?}", self.kind).to_lowercase();
+        let numbers = match self.look {
+            Look::Answer { wrong: true } => ", wrong numbers",
+            Look::Answer { wrong: false } => ", right numbers",
+            Look::Between(_) => "",
+        };
+        format!("{}, {kind} sheets{numbers}", self.subject())
+    }
+}

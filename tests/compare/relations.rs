@@ -1,0 +1,271 @@
+//! What must hold between answers of the proved program, whatever they are.
+
+use guarded::{made, Seen};
+use second::call::{Call, Entry};
+use second::checks::{room_needed, rows_in};
+use second::largest::{how_many_sets, largest};
+use second::program::DOCUMENT;
+use second::random::Random;
+use second::rows::Sheet;
+use sheets::Kind;
+
+/// A relation: its name, the kinds of sheet it is tried on, and the test, which tells what is wrong where something is.
+#[derive(Clone, Copy)]
+pub struct Relation {
+    pub name: &'static str,
+    pub kinds: &'static [Kind],
+    pub broken: fn(&Call, &mut Random) -> Option<String>,
+}
+
+/// Kinds whose refinement is quick.
+const QUICK: &[Kind] = &[
+    Kind::Tiny,
+    Kind::Middle,
+    Kind::Heavy,
+    Kind::Light,
+    Kind::Exponential,
+    Kind::Climbing,
+    Kind::Full,
+];
+
+/// Every relation.
+pub const RELATIONS: [Relation; 8] = [
+    Relation {
+        name: "both engines end at the same bounds and marks",
+        kinds: QUICK,
+        broken: engines_differ,
+    },
+    Relation {
+        name: "RTA is never above BCL and marks what BCL marks",
+        kinds: QUICK,
+        broken: rta_above_bcl,
+    },
+    Relation {
+        name: "every final bound is its row's own answer",
+        kinds: QUICK,
+        broken: not_consistent,
+    },
+    Relation {
+        name: "the end is the largest of all consistent sets",
+        kinds: &[Kind::Tiny],
+        broken: not_largest,
+    },
+    Relation {
+        name: "the order of rows changes nothing",
+        kinds: QUICK,
+        broken: order_matters,
+    },
+    Relation {
+        name: "a processor more is never worse",
+        kinds: QUICK,
+        broken: processor_hurts,
+    },
+    Relation {
+        name: "a sheet written and read is the same",
+        kinds: QUICK,
+        broken: not_back,
+    },
+    Relation {
+        name: "the whole answer is reading and then the result sheet",
+        kinds: QUICK,
+        broken: answer_apart,
+    },
+];
+
+/// The same sheet asked by another entry, with just the room that its answer takes.
+fn asked(call: &Call, entry: Entry) -> Call {
+    Call {
+        entry,
+        room: room_needed(entry, call.words.len() / 3),
+        ..call.clone()
+    }
+}
+
+/// What refining by an engine and a method gives.
+fn refined(call: &Call, entry: Entry, method: u32, random: &mut Random) -> Seen {
+    made(
+        &Call {
+            method,
+            ..asked(call, entry)
+        },
+        random,
+    )
+}
+
+/// The sheet's own method by both engines.
+fn engines_differ(call: &Call, random: &mut Random) -> Option<String> {
+    let rounds = refined(call, Entry::RefineRounds, call.method, random);
+    let at_once = refined(call, Entry::RefineAtOnce, call.method, random);
+    let same = rounds.numbers == at_once.numbers
+        && (rounds.numbers[0] != 0 || rounds.after == at_once.after);
+    (!same).then(|| {
+        format!(
+            "rounds {:?} {:?}, at once {:?} {:?}",
+            rounds.numbers, rounds.after, at_once.numbers, at_once.after
+        )
+    })
+}
+
+/// Whether one refinement's bounds are nowhere above the other's and its marks cover the other's.
+fn is_better(one: &Seen, other: &Seen) -> bool {
+    let below = one.after.iter().zip(&other.after).all(|(a, b)| a <= b);
+    below && one.numbers[2] & other.numbers[2] == other.numbers[2]
+}
+
+/// RTA against BCL, by the at-once engine.
+fn rta_above_bcl(call: &Call, random: &mut Random) -> Option<String> {
+    let rta = refined(call, Entry::RefineAtOnce, 1, random);
+    let bcl = refined(call, Entry::RefineAtOnce, 0, random);
+    let holds = rta.numbers[0] != 0 || is_better(&rta, &bcl);
+    (!holds).then(|| {
+        format!(
+            "RTA {:?} {:?}, BCL {:?} {:?}",
+            rta.numbers, rta.after, bcl.numbers, bcl.after
+        )
+    })
+}
+
+/// The one-row question of every row under the final bounds: the bound of a marked row, none and the deadline of another.
+fn not_consistent(call: &Call, random: &mut Random) -> Option<String> {
+    let end = refined(call, Entry::RefineAtOnce, call.method, random);
+    if end.numbers[0] != 0 {
+        return None;
+    }
+    let bounds: Vec<u32> = end.after.iter().map(|&bound| bound as u32).collect();
+    let wrong = |&row: &usize| {
+        let question = Call {
+            bounds: bounds.clone(),
+            row: row as u32,
+            ..asked(call, Entry::OneRow)
+        };
+        let marked = end.numbers[2] >> row & 1 == 1;
+        let due = if marked { end.after[row] } else { 0 };
+        let unmarked_below_deadline = !marked && bounds[row] != call.words[3 * row + 1];
+        made(&question, random).numbers != [0, 0, due] || unmarked_below_deadline
+    };
+    let row = (0..bounds.len()).find(wrong)?;
+    Some(format!(
+        "row {row} under the final bounds {bounds:?}, marks {:X}",
+        end.numbers[2]
+    ))
+}
+
+/// The final bounds against the largest consistent set, found by trying every set, where there are not too many.
+fn not_largest(call: &Call, random: &mut Random) -> Option<String> {
+    let end = refined(call, Entry::RefineAtOnce, call.method, random);
+    let sheet = Sheet {
+        rows: rows_in(&DOCUMENT, &call.words),
+        processors: call.processors as u64,
+    };
+    if end.numbers[0] != 0 || how_many_sets(&sheet) > 1000 {
+        return None;
+    }
+    let found = largest(&DOCUMENT, &sheet, call.method);
+    (found.as_ref() != Some(&end.after)).then(|| {
+        format!(
+            "final bounds {:?}, largest consistent set {found:?}",
+            end.after
+        )
+    })
+}
+
+/// The sheet with its rows in another order: each row keeps its bound and its mark.
+fn order_matters(call: &Call, random: &mut Random) -> Option<String> {
+    let straight = refined(call, Entry::RefineAtOnce, call.method, random);
+    let order = random.order(call.words.len() / 3);
+    let words = order
+        .iter()
+        .flat_map(|&row| call.words[3 * row..3 * row + 3].to_vec())
+        .collect();
+    let mixed = refined(
+        &Call {
+            words,
+            ..call.clone()
+        },
+        Entry::RefineAtOnce,
+        call.method,
+        random,
+    );
+    if straight.numbers[0] != 0 {
+        return None;
+    }
+    let mark = |seen: &Seen, row: usize| seen.numbers[2] >> row & 1;
+    let kept = |(place, &row): (usize, &usize)| {
+        mixed.after[place] == straight.after[row] && mark(&mixed, place) == mark(&straight, row)
+    };
+    let holds = order.iter().enumerate().all(kept);
+    (!holds).then(|| {
+        format!(
+            "bounds {:?}; in the order {order:?} {:?}",
+            straight.after, mixed.after
+        )
+    })
+}
+
+/// The sheet on one processor more.
+fn processor_hurts(call: &Call, random: &mut Random) -> Option<String> {
+    let more = Call {
+        processors: call.processors + 1,
+        ..call.clone()
+    };
+    let with = refined(&more, Entry::RefineAtOnce, call.method, random);
+    let without = refined(call, Entry::RefineAtOnce, call.method, random);
+    let holds = with.numbers[0] != 0 || without.numbers[0] != 0 || is_better(&with, &without);
+    (!holds).then(|| {
+        format!(
+            "bounds {:?}; on one processor more {:?}",
+            without.after, with.after
+        )
+    })
+}
+
+/// The sheet written, read and written again.
+fn not_back(call: &Call, random: &mut Random) -> Option<String> {
+    let text = bytes_of(&made(&asked(call, Entry::WriteSheet), random));
+    let read = made(
+        &Call {
+            text: text.clone(),
+            ..asked(call, Entry::ReadSheet)
+        },
+        random,
+    );
+    if read.numbers[0] == 8 {
+        return None;
+    }
+    let words: Vec<u64> = call.words.iter().map(|&word| word as u64).collect();
+    let same = read.numbers == [0, 0, call.processors as u64, words.len() as u64 / 3]
+        && read.after == words;
+    (!same).then(|| format!("read back {:?} {:?}", read.numbers, read.after))
+}
+
+/// The whole answer to the sheet's text, and the RTA result sheet of its rows.
+fn answer_apart(call: &Call, random: &mut Random) -> Option<String> {
+    let text = bytes_of(&made(&asked(call, Entry::WriteSheet), random));
+    let whole = made(
+        &Call {
+            text,
+            ..asked(call, Entry::AnswerSheet)
+        },
+        random,
+    );
+    let result = made(
+        &Call {
+            method: 1,
+            ..asked(call, Entry::WriteResult)
+        },
+        random,
+    );
+    let holds =
+        result.numbers[0] != 0 || (whole.numbers == result.numbers && whole.after == result.after);
+    (!holds).then(|| {
+        format!(
+            "whole answer {:?}, result sheet {:?}",
+            whole.numbers, result.numbers
+        )
+    })
+}
+
+/// The lent output of a call as bytes.
+fn bytes_of(seen: &Seen) -> Vec<u8> {
+    seen.after.iter().map(|&byte| byte as u8).collect()
+}

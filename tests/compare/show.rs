@@ -1,0 +1,84 @@
+//! A call and a difference in words.
+
+use crate::difference::Compared;
+use crate::groups::entry_name;
+use second::call::{Call, Entry};
+
+/// Rows as triples, twins that follow each other counted, with words that are left over behind them.
+fn rows_shown(words: &[u32]) -> String {
+    let rows: Vec<&[u32]> = words.chunks(3).collect();
+    let counted = |twins: &[&[u32]]| match twins.len() {
+        1 => format!("({})", joined(twins[0])),
+        count => format!("{count} x ({})", joined(twins[0])),
+    };
+    let shown: Vec<String> = rows
+        .chunk_by(|one, next| one == next)
+        .map(counted)
+        .collect();
+    if shown.is_empty() {
+        "none".to_string()
+    } else {
+        shown.join(" ")
+    }
+}
+
+/// Numbers with commas between them.
+fn joined<T: ToString>(numbers: &[T]) -> String {
+    let shown: Vec<String> = numbers.iter().map(T::to_string).collect();
+    shown.join(",")
+}
+
+/// A text with its line ends and strange bytes made visible.
+fn text_shown(text: &[u8]) -> String {
+    format!("\"{}\"", text.escape_ascii())
+}
+
+/// What an entry is given, in one line.
+pub fn call_shown(call: &Call) -> String {
+    let rows = format!("rows {}", rows_shown(&call.words));
+    let given = match call.entry {
+        Entry::OneRow => format!(
+            "{rows}, processors {}, method {}, bounds {}, row {}",
+            call.processors,
+            call.method,
+            joined(&call.bounds),
+            call.row
+        ),
+        Entry::RefineRounds | Entry::RefineAtOnce | Entry::WriteResult => {
+            format!(
+                "{rows}, processors {}, method {}, room {}",
+                call.processors, call.method, call.room
+            )
+        }
+        Entry::OneProcessor => format!("{rows}, horizon {}", call.horizon),
+        Entry::WriteSheet => format!("{rows}, processors {}, room {}", call.processors, call.room),
+        Entry::ReadSheet | Entry::AnswerSheet => {
+            format!("text {}, room {}", text_shown(&call.text), call.room)
+        }
+    };
+    format!("{}: {given}", entry_name(call.entry))
+}
+
+/// What differs and what both programs gave, in three lines, where something differs.
+pub fn difference_shown(compared: &Compared) -> Option<String> {
+    let what = compared.what?;
+    let (proved, second) = (&compared.proved, &compared.second);
+    let became = match proved.before.len() {
+        0 => "no output lent".to_string(),
+        _ => format!(
+            "output {} became {}",
+            joined(&proved.before),
+            joined(&proved.after)
+        ),
+    };
+    let writes = match (second.words.len(), second.text.len()) {
+        (0, 0) => "writes nothing".to_string(),
+        (0, _) => format!("writes {}", text_shown(&second.text)),
+        _ => format!("writes {}", joined(&second.words)),
+    };
+    let numbers = (joined(&proved.numbers), joined(&second.numbers));
+    Some(format!(
+        "  differs in {what}\n  proved program: {}; {became}\n  second program: {}; {writes}",
+        numbers.0, numbers.1
+    ))
+}

@@ -1,0 +1,242 @@
+//! The scope document's numbers worked by hand, of the proved program and of the second one.
+
+use guarded::made;
+use second::answers::answer;
+use second::call::{Answer, Call, Entry};
+use second::checks::room_needed;
+use second::program::DOCUMENT;
+use second::random::Random;
+
+/// The rows of case S.
+const S: [u32; 9] = [2, 5, 5, 2, 5, 5, 3, 6, 6];
+
+/// Two rows that are twins.
+const TWINS: [u32; 6] = [3, 4, 4, 3, 4, 4];
+
+/// Rows of utilisation exactly 1.
+const WHOLE: [u32; 9] = [15, 70, 75, 334, 668, 668, 54, 178, 180];
+
+/// A case: its name, the call, and the numbers and contents that are due.
+type Case = (&'static str, Call, Answer);
+
+/// A call with nothing in it yet but its entry, rows and processors.
+fn call(entry: Entry, words: &[u32], processors: u32) -> Call {
+    let room = room_needed(entry, words.len() / 3);
+    Call {
+        entry,
+        words: words.to_vec(),
+        processors,
+        method: 1,
+        bounds: Vec::new(),
+        row: 0,
+        horizon: 1,
+        text: Vec::new(),
+        room,
+    }
+}
+
+/// A one-row case.
+fn one_row(
+    name: &'static str,
+    words: &[u32],
+    processors: u32,
+    method: u32,
+    bounds: &[u32],
+    row: u32,
+    bound: u64,
+) -> Case {
+    let asked = Call {
+        method,
+        bounds: bounds.to_vec(),
+        row,
+        ..call(Entry::OneRow, words, processors)
+    };
+    (
+        name,
+        asked,
+        Answer {
+            numbers: vec![0, 0, bound],
+            ..Answer::default()
+        },
+    )
+}
+
+/// A one-processor case: outcome 0 undecided, 1 miss, 2 fits.
+fn one_processor(
+    name: &'static str,
+    words: &[u32],
+    horizon: u32,
+    outcome: u64,
+    length: u64,
+) -> Case {
+    let asked = Call {
+        horizon,
+        ..call(Entry::OneProcessor, words, 1)
+    };
+    (
+        name,
+        asked,
+        Answer {
+            numbers: vec![0, 0, outcome, length],
+            ..Answer::default()
+        },
+    )
+}
+
+/// A refining case.
+fn refined(
+    name: &'static str,
+    entry: Entry,
+    words: &[u32],
+    processors: u32,
+    marks: u64,
+    bounds: &[u32],
+) -> Case {
+    let numbers = vec![0, 0, marks];
+    (
+        name,
+        call(entry, words, processors),
+        Answer {
+            numbers,
+            words: bounds.to_vec(),
+            text: Vec::new(),
+        },
+    )
+}
+
+/// Questions about one row: P4 to P7.
+fn row_cases() -> Vec<Case> {
+    vec![
+        one_row("P4", &S, 2, 1, &[5, 5, 6], 2, 6),
+        one_row("P5", &S, 2, 1, &[4, 4, 6], 2, 5),
+        one_row("P6 by RTA", &TWINS, 1, 1, &[4, 4], 0, 0),
+        one_row("P6 by BCL", &TWINS, 1, 0, &[4, 4], 1, 0),
+        one_row("P7 by RTA", &TWINS, 2, 1, &[4, 4], 0, 3),
+        one_row("P7 by BCL", &TWINS, 2, 0, &[4, 4], 1, 4),
+    ]
+}
+
+/// Questions about one processor: P8 to P10 and those that are run.
+fn processor_cases() -> Vec<Case> {
+    vec![
+        one_processor("P8", &TWINS, 4, 1, 4),
+        one_processor("P9", &[1, 2, 4, 2, 3, 4], 3, 2, 3),
+        one_processor("P10 at horizon 2", &[2, 2, 4, 2, 3, 4], 2, 0, 0),
+        one_processor("P10 at horizon 3", &[2, 2, 4, 2, 3, 4], 3, 1, 3),
+        one_processor("(5,5,10) at horizon 4", &[5, 5, 10], 4, 0, 0),
+        one_processor("(5,5,10) at horizon 5", &[5, 5, 10], 5, 2, 5),
+        one_processor("utilisation 1 at horizon 150,299", &WHOLE, 150_299, 0, 0),
+        one_processor(
+            "utilisation 1 at horizon 150,300",
+            &WHOLE,
+            150_300,
+            2,
+            150_300,
+        ),
+    ]
+}
+
+/// Whole sheets: case S, and sheets that tell wrong tools apart which pass it.
+fn sheet_cases() -> Vec<Case> {
+    let mut cases = Vec::new();
+    for entry in [Entry::RefineRounds, Entry::RefineAtOnce] {
+        cases.push(refined("case S", entry, &S, 2, 7, &[4, 4, 5]));
+        cases.push(refined(
+            "RTA without W",
+            entry,
+            &[1, 1, 2, 1, 3, 3],
+            1,
+            3,
+            &[1, 2],
+        ));
+        cases.push(refined(
+            "a stop when all are marked",
+            entry,
+            &[1, 2, 2, 1, 5, 5],
+            1,
+            3,
+            &[1, 2],
+        ));
+        cases.push(refined(
+            "a start at the costs",
+            entry,
+            &[1, 2, 2, 1, 4, 4],
+            1,
+            3,
+            &[2, 3],
+        ));
+    }
+    cases
+}
+
+/// Texts: case S read, written and answered, and a refusal told.
+fn text_cases() -> Vec<Case> {
+    let sheet =
+        b"010203\n02000002000005000005\n02000002000005000005\n02000003000006000006\n".to_vec();
+    let result = b"110103\n1201000004\n1201000004\n1201000005\n".to_vec();
+    let read = Call {
+        text: sheet.clone(),
+        ..call(Entry::ReadSheet, &S, 2)
+    };
+    let whole = Call {
+        text: sheet.clone(),
+        ..call(Entry::AnswerSheet, &S, 2)
+    };
+    let cut = Call {
+        text: sheet[..69].to_vec(),
+        ..whole.clone()
+    };
+    let written = |text: Vec<u8>| Answer {
+        numbers: vec![0, 0, text.len() as u64],
+        words: Vec::new(),
+        text,
+    };
+    vec![
+        (
+            "case S read",
+            read,
+            Answer {
+                numbers: vec![0, 0, 2, 3],
+                words: S.to_vec(),
+                text: Vec::new(),
+            },
+        ),
+        (
+            "case S written",
+            call(Entry::WriteSheet, &S, 2),
+            written(sheet),
+        ),
+        (
+            "case S as a result sheet",
+            call(Entry::WriteResult, &S, 2),
+            written(result.clone()),
+        ),
+        ("case S answered", whole, written(result)),
+        ("case S cut short", cut, written(b"1F010045\n".to_vec())),
+    ]
+}
+
+/// The cases that one of the programs answers otherwise.
+pub fn wrong_cases(random: &mut Random) -> Vec<String> {
+    let mut wrong = Vec::new();
+    for (name, call, due) in [row_cases(), processor_cases(), sheet_cases(), text_cases()].concat()
+    {
+        let seen = made(&call, random);
+        let contents: Vec<u64> = due
+            .words
+            .iter()
+            .map(|&word| word as u64)
+            .chain(due.text.iter().map(|&byte| byte as u64))
+            .collect();
+        let proved_right = seen.numbers == due.numbers && seen.after.starts_with(&contents);
+        if !proved_right || answer(&DOCUMENT, &call) != due {
+            wrong.push(format!(
+                "{name}: proved program {:?}, second program {:?}, due {:?}",
+                seen.numbers,
+                answer(&DOCUMENT, &call).numbers,
+                due.numbers
+            ));
+        }
+    }
+    wrong
+}

@@ -1,0 +1,137 @@
+//! A call of any entry with all its memory between guards, and what was seen of it.
+
+use crate::exported::*;
+use crate::lent::{Element, Lent};
+use second::call::{Call, Entry};
+use second::random::Random;
+use std::sync::atomic::{AtomicU64, Ordering};
+
+/// How many calls have been made.
+pub static CALLS: AtomicU64 = AtomicU64::new(0);
+
+/// What a call of the proved program did: its numbers, the lent output before and after, and whether it touched what it must not.
+#[derive(Clone, PartialEq, Eq, Debug)]
+pub struct Seen {
+    pub numbers: Vec<u64>,
+    pub before: Vec<u64>,
+    pub after: Vec<u64>,
+    pub inputs_kept: bool,
+    pub guards_kept: bool,
+}
+
+/// Lent inputs of a call.
+struct Inputs {
+    words: Lent<u32>,
+    bounds: Lent<u32>,
+    text: Lent<u8>,
+}
+
+/// Makes a call, with guards and old output contents drawn from a random generator.
+pub fn made(call: &Call, random: &mut Random) -> Seen {
+    CALLS.fetch_add(1, Ordering::Relaxed);
+    let mut inputs = Inputs {
+        words: Lent::new(&call.words, random),
+        bounds: Lent::new(&call.bounds, random),
+        text: Lent::new(&call.text, random),
+    };
+    match call.entry {
+        Entry::OneRow | Entry::OneProcessor => answered(call, inputs),
+        Entry::RefineRounds | Entry::RefineAtOnce | Entry::ReadSheet => {
+            let mut out = Lent::room(call.room, random);
+            let numbers = to_words(call, &mut inputs, &mut out);
+            seen(numbers, &inputs, &out)
+        }
+        Entry::WriteSheet | Entry::WriteResult | Entry::AnswerSheet => {
+            let mut out = Lent::room(call.room, random);
+            let numbers = to_text(call, &mut inputs, &mut out);
+            seen(numbers, &inputs, &out)
+        }
+    }
+}
+
+/// A call of an entry that writes nothing.
+fn answered(call: &Call, mut inputs: Inputs) -> Seen {
+    let (words, length) = (inputs.words.pointer(), inputs.words.length());
+    let (bounds, bounds_length) = (inputs.bounds.pointer(), inputs.bounds.length());
+    // SAFETY: each pointer is to as many elements as its length says, and they live past the call.
+    let numbers: Vec<u64> = unsafe {
+        match call.entry {
+            Entry::OneRow => circuitrail_one_row(
+                words,
+                length,
+                call.processors,
+                call.method,
+                bounds,
+                bounds_length,
+                call.row,
+            )
+            .into(),
+            _ => circuitrail_one_processor(words, length, call.horizon).into(),
+        }
+    };
+    let nothing: Lent<u8> = Lent::new(&[], &mut Random::of([0]));
+    seen(numbers, &inputs, &nothing)
+}
+
+/// A call of an entry that writes words.
+fn to_words(call: &Call, inputs: &mut Inputs, out: &mut Lent<u32>) -> Vec<u64> {
+    let (words, length) = (inputs.words.pointer(), inputs.words.length());
+    let (text, text_length) = (inputs.text.pointer(), inputs.text.length());
+    let (room, pointer) = (out.length(), out.pointer());
+    // SAFETY: each pointer is to as many elements as its length says, they live past the call, and the output overlaps nothing.
+    unsafe {
+        match call.entry {
+            Entry::RefineRounds => circuitrail_refine_rounds(
+                words,
+                length,
+                call.processors,
+                call.method,
+                pointer,
+                room,
+            )
+            .into(),
+            Entry::RefineAtOnce => circuitrail_refine_at_once(
+                words,
+                length,
+                call.processors,
+                call.method,
+                pointer,
+                room,
+            )
+            .into(),
+            _ => circuitrail_read_sheet(text, text_length, pointer, room).into(),
+        }
+    }
+}
+
+/// A call of an entry that writes a text.
+fn to_text(call: &Call, inputs: &mut Inputs, out: &mut Lent<u8>) -> Vec<u64> {
+    let (words, length) = (inputs.words.pointer(), inputs.words.length());
+    let (text, text_length) = (inputs.text.pointer(), inputs.text.length());
+    let (room, pointer) = (out.length(), out.pointer());
+    // SAFETY: each pointer is to as many elements as its length says, they live past the call, and the output overlaps nothing.
+    unsafe {
+        match call.entry {
+            Entry::WriteSheet => {
+                circuitrail_write_sheet(words, length, call.processors, pointer, room).into()
+            }
+            Entry::WriteResult => {
+                circuitrail_write_result(words, length, call.processors, call.method, pointer, room)
+                    .into()
+            }
+            _ => circuitrail_answer_sheet(text, text_length, pointer, room).into(),
+        }
+    }
+}
+
+/// What was seen of a call, from its numbers and its lent memory.
+fn seen<T: Element + Into<u64>>(numbers: Vec<u64>, inputs: &Inputs, out: &Lent<T>) -> Seen {
+    let wide = |part: &[T]| part.iter().map(|&element| element.into()).collect();
+    Seen {
+        numbers,
+        before: wide(out.old()),
+        after: wide(out.now()),
+        inputs_kept: inputs.words.kept() && inputs.bounds.kept() && inputs.text.kept(),
+        guards_kept: out.guards_kept(),
+    }
+}

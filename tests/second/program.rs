@@ -1,0 +1,85 @@
+//! The second program by its parts.
+//!
+//! Every function reaches the parts below through this record, so that a wrong program is the right one with one part
+//! exchanged.
+
+use crate::call::{Answer, Entry};
+use crate::checks::Refusal;
+use crate::one_processor::Verdict;
+use crate::reader::Written;
+use crate::rows::{Row, Sheet};
+use crate::{answers, checks, interference, one_processor, one_row, reader, refine, rows, writer};
+
+/// A one-row answer by one method.
+type Method = fn(&Program, &Sheet, usize, &[u64]) -> Option<u64>;
+
+/// The parts, each named as the function that DOCUMENT has in its place.
+#[derive(Clone, Copy)]
+pub struct Program {
+    pub row_of: fn(&[u32]) -> Row,
+    pub is_other: fn(&[Row], usize, usize) -> bool,
+    pub share: fn(Row, u64, u64) -> u64,
+    pub work: fn(Row, u64, u64) -> u64,
+    pub divided: fn(u64, u64) -> u64,
+    pub bcl_cap: fn(Row) -> u64,
+    pub rta_cap: fn(Row, u64) -> u64,
+    pub rta_term: fn(u64, u64, u64) -> u64,
+    pub bcl: Method,
+    pub rta: Method,
+    pub first_bounds: fn(&[Row]) -> Vec<u64>,
+    pub refined: fn(&Program, &Sheet, u32) -> Vec<u64>,
+    pub is_marked: fn(&Program, &Sheet, u32, usize, &[u64]) -> bool,
+    pub marks: fn(&[bool]) -> u64,
+    pub accepted: fn(&[bool]) -> bool,
+    pub demand: fn(Row, u64) -> u64,
+    pub misses: fn(u64, u64) -> bool,
+    pub jobs_begun: fn(Row, u64) -> u64,
+    pub verdict: fn(&Program, &[Row], u64) -> Verdict,
+    pub digit: fn(u8) -> Option<u32>,
+    pub read: fn(&Program, &[u8]) -> Result<Written, usize>,
+    pub number_text: fn(u64, usize) -> String,
+    pub refusal_line: fn(&Program, Refusal) -> String,
+    pub rank: fn(u32) -> u32,
+    pub processors_wrong: fn(u32) -> bool,
+    pub method_wrong: fn(u32) -> bool,
+    pub horizon_wrong: fn(u32) -> bool,
+    pub row_wrong: fn(Row) -> bool,
+    pub bad_row: fn(&Program, &[Row]) -> Option<usize>,
+    pub question_wrong: fn(&[Row], &[u32], u32) -> bool,
+    pub refused: fn(Entry, Refusal) -> Answer,
+}
+
+/// The program that the scope document describes.
+pub const DOCUMENT: Program = Program {
+    row_of: rows::row_of,
+    is_other: interference::is_other,
+    share: interference::share,
+    work: interference::work,
+    divided: interference::divided,
+    bcl_cap: one_row::bcl_cap,
+    rta_cap: one_row::rta_cap,
+    rta_term: one_row::rta_term,
+    bcl: one_row::bcl,
+    rta: one_row::rta,
+    first_bounds: refine::first_bounds,
+    refined: refine::refined,
+    is_marked: refine::is_marked,
+    marks: refine::marks,
+    accepted: refine::accepted,
+    demand: one_processor::demand,
+    misses: one_processor::misses,
+    jobs_begun: one_processor::jobs_begun,
+    verdict: one_processor::verdict,
+    digit: reader::digit,
+    read: reader::read,
+    number_text: writer::number_text,
+    refusal_line: writer::refusal_line,
+    rank: checks::rank,
+    processors_wrong: checks::processors_wrong,
+    method_wrong: checks::method_wrong,
+    horizon_wrong: checks::horizon_wrong,
+    row_wrong: checks::row_wrong,
+    bad_row: checks::bad_row,
+    question_wrong: checks::question_wrong,
+    refused: answers::refused,
+};
