@@ -8,7 +8,7 @@ ghost use mathlib.Core.Path.{_≡_};
 ghost use Prim.Native.Nat.{_+_, _-_, _≤_, _<_};
 ghost use lib.ListN.{length};
 ghost use Rattle.laws.specs.Sum.{unless};
-ghost use Rattle.model.specs.Interference.{share, work, bclTerm};
+ghost use Rattle.model.specs.Interference.{share, carried, bclTerm};
 ghost use Rattle.rows.specs.Words.{rowCount, sheetOf};
 ghost use Rattle.analysis.specs.Inner.{Ready, shares};
 
@@ -20,12 +20,11 @@ pub(crate) fn share_in_window(cost: u32, deadline: u32, period: u32, bound: u32,
     window / period * cost + lesser(cost, less(window % period, less(deadline, bound)))
 }
 
-// The work of a row in a window.
-pub(crate) fn work_in_window(cost: u32, period: u32, bound: u32, window: u32) -> u32
-    requires { ⌜ (cost ≤ period) × (1 ≤ period) × (period ≤ 1_000_000) × (bound ≤ 1_000_000) × (window ≤ 1_000_000) ⌝ }
-    ensures { λ r. ⌜ r ≡ work cost period bound window ⌝ }
+// The work of a row in a time that is counted from its cost before the window's start.
+pub(crate) fn work_in_time(cost: u32, period: u32, time: u32) -> u32
+    requires { ⌜ (cost ≤ period) × (1 ≤ period) × (period ≤ 1_000_000) × (time ≤ 2_000_000) ⌝ }
+    ensures { λ r. ⌜ r ≡ carried cost period time ⌝ }
 {
-    let time = less(window + bound, cost);
     time / period * cost + lesser(cost, time % period)
 }
 

@@ -1,11 +1,10 @@
 // One row's answer: BCL by its formula, RTA by climbing from the cost.
 use crate::interference::fill_shares;
-use crate::interference::work_in_window;
+use crate::interference::work_in_time;
 use numbers::lesser;
 use rows::Found;
 use rows::cost;
 use rows::deadline;
-use rows::period;
 ghost use mathlib.Core.Path.{_≡_};
 ghost use Prim.Native.Nat.{ℕ, _+_, _-_, _≤_, _<_};
 ghost use lib.ListN.{length, getD};
@@ -31,11 +30,10 @@ pub(crate) fn term(
     if most <= 1 {
         return most;
     }
-    let bound = bounds[other as usize];
-    lesser(
-        work_in_window(cost(words, other), period(words, other), bound, x),
-        most,
-    )
+    let at = 3 * (other as usize);
+    let period = at + 2;
+    let time = x + bounds[other as usize] - words[at];
+    lesser(work_in_time(words[at], words[period], time), most)
 }
 
 // What all other rows add at X.

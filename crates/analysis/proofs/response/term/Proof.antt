@@ -1,11 +1,13 @@
 -- `term` is the least of work, share and cap: a row that is ready has work of at least 1, so a least of 0 or 1 needs no more looking.
 use borrow.Author.Needs.{needs}
-use mathlib.Core.Path.{_≡_}
-use Prim.Native.Nat.{ℕ, min}
+use mathlib.Core.Path.{_∙_, ap₂}
+use Prim.Native.Nat.{ℕ, _+_, _*_, _≤_, min}
 use lib.ListN.{getD}
 use denote.Ref.{now}
+use Rattle.model.specs.Sheet.{triples}
 use Rattle.model.specs.Interference.{work, workOf}
 use Rattle.rows.specs.Words.{sheetOf}
+use Rattle.rows.proofs.Words.{cost-word, period-word}
 use Rattle.rows.proofs.Checks.{sound-row}
 use Rattle.analysis.specs.Inner.{termOf}
 use Rattle.analysis.proofs.Limits.{bound-in-range, work-positive}
@@ -22,6 +24,25 @@ shared-slice-read-lesser c = search needs
 lesser-requires : tie.Need-lesser-requires
 lesser-requires c κs = search needs
 
+-- What is known of the other row's words and bound.
+record Sizes (cost period bound : ℕ) : Type 0 where
+  some-period : 1 ≤ period
+  by-period : cost ≤ period
+  small : period ≤ 1_000_000
+  from-cost : cost ≤ bound
+  by-limit : bound ≤ 1_000_000
+
+sizes : (s : tie.Start) → let words = now (s .args .words) in
+    Sizes (getD words (3 * s .args .other) 0) (getD words (3 * s .args .other + 2) 0) (getD (now (s .args .bounds)) (s .args .other) 0)
+sizes s =
+    let words = now (s .args .words) in
+    let other = s .args .other in
+    let sized = sound-row words (s .pre .0 .rows) other (s .pre .1) in
+    let range = bound-in-range words (now (s .args .bounds)) (s .pre .0) other (s .pre .1) in
+    let cost = cost-word words other in
+    let period = period-word words other in
+    record { some-period = omega arith; by-period = omega arith; small = omega arith; from-cost = omega arith; by-limit = omega arith }
+
 returns : tie.Need-returns
 unfolding termOf workOf
 returns c =
@@ -30,43 +51,59 @@ returns c =
     let other = p .args .other in
     let bounds = now (p .args .bounds) in
     let some-work = work-positive ((sheetOf words) .cost other) ((sheetOf words) .period other) (getD bounds other 0) (p .args .x)
-    (sound-row words (p .pre .0 .rows) other (p .pre .1) .positive) (bound-in-range words bounds (p .pre .0) other (p .pre .1) .0) (p .pre .3) in
+        (sound-row words (p .pre .0 .rows) other (p .pre .1) .positive) (bound-in-range words bounds (p .pre .0) other (p .pre .1) .0) (p .pre .3) in
     omega arith
 
-mul-bound : tie.Need-mul-bound
-mul-bound c = search needs
+mul-at : tie.Need-mul-at
+mul-at c = search needs
 
-shared-slice-read-bound : tie.Need-shared-slice-read-bound
-shared-slice-read-bound c = search needs
+add-period : tie.Need-add-period
+add-period c = search needs
 
-cost-requires : tie.Need-cost-requires
-cost-requires c κs = search needs
+mul-time : tie.Need-mul-time
+mul-time c = search needs
 
-period-requires : tie.Need-period-requires
-period-requires c κs = search needs
+shared-slice-read-time : tie.Need-shared-slice-read-time
+shared-slice-read-time c = search needs
 
-work-in-window-requires : tie.Need-work-in-window-requires
-work-in-window-requires c κs =
-    let p = c .before .before .before .before .before .before .before .before .before in
-    let words = now (p .args .words) in
-    let sized = sound-row words (p .pre .0 .rows) (p .args .other) (p .pre .1) in
-    let range = bound-in-range words (now (p .args .bounds)) (p .pre .0) (p .args .other) (p .pre .1) in
+add-time : tie.Need-add-time
+add-time c = let known = sizes (c .before .before .before .before .before .before .before) in omega (arith, c .before .before .before .before .before .before .before .pre .4)
+
+mul-time-2 : tie.Need-mul-time-2
+mul-time-2 c = search needs
+
+shared-slice-read-time-2 : tie.Need-shared-slice-read-time-2
+shared-slice-read-time-2 c = search needs
+
+sub-time : tie.Need-sub-time
+sub-time c = let known = sizes (c .before .before .before .before .before .before .before .before) in omega arith
+
+mul-work-in-time : tie.Need-mul-work-in-time
+mul-work-in-time c = search needs
+
+shared-slice-read-work-in-time : tie.Need-shared-slice-read-work-in-time
+shared-slice-read-work-in-time c = search needs
+
+mul-work-in-time-2 : tie.Need-mul-work-in-time-2
+mul-work-in-time-2 c = search needs
+
+shared-slice-read-work-in-time-2 : tie.Need-shared-slice-read-work-in-time-2
+shared-slice-read-work-in-time-2 c = search needs
+
+work-in-time-requires : tie.Need-work-in-time-requires
+work-in-time-requires c κs =
+    let p = c .before .before .before .before .before .before .before .before .before .before in
+    let known = sizes p in
     omega (arith, p .pre .4)
 
 lesser-requires-2 : tie.Need-lesser-requires-2
 lesser-requires-2 c κs = search needs
 
--- The least of the three, from what each call gave.
-least : {r w c t most : ℕ} (b x c′ t′ taken cap : ℕ) → r ≡ min w most → w ≡ work c t b x → c ≡ c′ → t ≡ t′ → most ≡ min taken cap
-    → r ≡ min (work c′ t′ b x) (min taken cap)
-least b x c′ t′ taken cap lesser worked cost period limit = cc
-
 returns-2 : tie.Need-returns-2
-unfolding termOf workOf
+unfolding termOf workOf work sheetOf triples
 returns-2 c =
-    let worked = c .before in
-    least _ _ _ _ _ _ (c .lesser2 .ensures) (worked .work-in-window .ensures) (worked .before .before .cost .ensures)
-    (worked .before .period .ensures) (worked .before .before .before .before .before .lesser .ensures)
+    c .lesser2 .ensures
+    ∙ ap₂ min (c .before .work-in-time .ensures) (c .before .before .before .before .before .before .before .lesser .ensures)
 
 pub term-spec : {M : Type 1} → statement M
 term-spec =
@@ -76,10 +113,18 @@ term-spec =
     shared-slice-read-lesser
     lesser-requires
     returns
-    mul-bound
-    shared-slice-read-bound
-    cost-requires
-    period-requires
-    work-in-window-requires
+    mul-at
+    add-period
+    mul-time
+    shared-slice-read-time
+    add-time
+    mul-time-2
+    shared-slice-read-time-2
+    sub-time
+    mul-work-in-time
+    shared-slice-read-work-in-time
+    mul-work-in-time-2
+    shared-slice-read-work-in-time-2
+    work-in-time-requires
     lesser-requires-2
     returns-2)
