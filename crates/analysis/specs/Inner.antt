@@ -2,7 +2,7 @@
 use mathlib.Core.Path.{_≡_}
 use mathlib.Core.Bool.{Bool, true, false}
 use mathlib.Core.List.{List}
-use Prim.Native.Nat.{ℕ, _≤_, _<_, min}
+use Prim.Native.Nat.{ℕ, _+_, _-_, _≤_, _<_, min}
 use lib.ListN.{length, getD}
 use Rattle.laws.specs.Sum.{total, unless}
 use Rattle.laws.specs.Fill.{listed}
@@ -27,6 +27,11 @@ pub record Ready (words : List ℕ) (R : List ℕ) : Type 0 where
 -- The most that each other row takes of the time before row k's deadline, and 0 for row k.
 unfoldable pub shares : Sheet → ℕ → List ℕ → List ℕ
 shares s k R = listed (unless k (bclTerm s k R)) (s .rows)
+
+-- A row's deadline window, and the most that any other row counts for in it: D − C + 1.
+pub record WindowOf (s : Sheet) (row window cap : ℕ) : Type 0 where
+  pub by-deadline : window ≡ s .deadline row
+  pub by-cost : cap ≡ s .deadline row - s .cost row + 1
 
 -- What one other row adds to the right side at X: its work, its share as worked out before, or the cap, whichever is least.
 unfoldable pub termOf : Sheet → List ℕ → List ℕ → ℕ → ℕ → ℕ → ℕ

@@ -3,14 +3,13 @@ use numbers::less;
 use numbers::lesser;
 use rows::cost;
 use rows::deadline;
-use rows::period;
 ghost use mathlib.Core.Path.{_≡_};
 ghost use Prim.Native.Nat.{_+_, _-_, _≤_, _<_};
 ghost use lib.ListN.{length};
 ghost use Rattle.laws.specs.Sum.{unless};
 ghost use Rattle.model.specs.Interference.{share, carried, bclTerm};
 ghost use Rattle.rows.specs.Words.{rowCount, sheetOf};
-ghost use Rattle.analysis.specs.Inner.{Ready, shares};
+ghost use Rattle.analysis.specs.Inner.{Ready, WindowOf, shares};
 
 // The demand share of a row in a deadline window.
 pub(crate) fn share_in_window(cost: u32, deadline: u32, period: u32, bound: u32, window: u32) -> u32
@@ -29,31 +28,43 @@ pub(crate) fn work_in_time(cost: u32, period: u32, time: u32) -> u32
 }
 
 // The most that another row takes of the time before a row's deadline: its share, and no more than D - C + 1.
-pub(crate) fn capped_share(words: &[u32], bounds: &[u32], row: u32, other: u32) -> u32
-    requires { ⌜ Ready (now words) (now bounds) × (row < rowCount (now words)) × (other < rowCount (now words)) ⌝ }
+pub(crate) fn capped_share(
+    words: &[u32],
+    bounds: &[u32],
+    row: u32,
+    other: u32,
+    window: u32,
+    cap: u32,
+) -> u32
+    requires { ⌜ Ready (now words) (now bounds) × (row < rowCount (now words)) × (other < rowCount (now words)) × WindowOf (sheetOf (now words)) row window cap ⌝ }
     ensures { λ r. ⌜ r ≡ bclTerm (sheetOf (now (words .entry))) row (now (bounds .entry)) other ⌝ }
 {
+    let at = 3 * (other as usize);
+    let deadline = at + 1;
+    let period = at + 2;
     let bound = bounds[other as usize];
-    let window = deadline(words, row);
-    let taken = share_in_window(
-        cost(words, other),
-        deadline(words, other),
-        period(words, other),
-        bound,
-        window,
-    );
-    lesser(taken, window - cost(words, row) + 1)
+    lesser(
+        share_in_window(words[at], words[deadline], words[period], bound, window),
+        cap,
+    )
 }
 
 // The same for every other row, and 0 for the row itself, which is left out by its place.
-pub(crate) fn other_share(words: &[u32], bounds: &[u32], row: u32, other: u32) -> u32
-    requires { ⌜ Ready (now words) (now bounds) × (row < rowCount (now words)) × (other < rowCount (now words)) ⌝ }
+pub(crate) fn other_share(
+    words: &[u32],
+    bounds: &[u32],
+    row: u32,
+    other: u32,
+    window: u32,
+    cap: u32,
+) -> u32
+    requires { ⌜ Ready (now words) (now bounds) × (row < rowCount (now words)) × (other < rowCount (now words)) × WindowOf (sheetOf (now words)) row window cap ⌝ }
     ensures { λ r. ⌜ r ≡ unless row (bclTerm (sheetOf (now (words .entry))) row (now (bounds .entry))) other ⌝ }
 {
     if other == row {
         0
     } else {
-        capped_share(words, bounds, row, other)
+        capped_share(words, bounds, row, other, window, cap)
     }
 }
 
@@ -62,9 +73,11 @@ pub(crate) fn fill_shares(words: &[u32], bounds: &[u32], row: u32, count: u32, o
     requires { ⌜ Ready (now words) (now bounds) × (row < rowCount (now words)) × (count ≡ rowCount (now words)) × (length (now out) ≡ count) ⌝ }
     ensures { λ r. ⌜ now (out .exit) ≡ shares (sheetOf (now (words .entry))) row (now (bounds .entry)) ⌝ }
 {
+    let window = deadline(words, row);
+    let cap = window - cost(words, row) + 1;
     let mut other = 0;
     while other < count {
-        out[other as usize] = other_share(words, bounds, row, other);
+        out[other as usize] = other_share(words, bounds, row, other, window, cap);
         other += 1;
     }
 }

@@ -1,13 +1,25 @@
--- `capped_share` is BCL's term: the sizes of both rows give what the share asks, and the cap fits.
-use native.Mathlib.Omega.{arith}
-use denote.Ref.{now}
-use mathlib.Core.Path.{_≡_}
-use Prim.Native.Nat.{ℕ, _+_, _-_, min}
-use Rattle.model.specs.Interference.{share, shareOf, bclTerm}
-use Rattle.rows.proofs.Checks.{sound-row}
+-- `capped_share` is BCL's term: the sizes of both rows give what the share asks, and the window and the cap are the row's own.
 use borrow.Author.Needs.{needs}
+use mathlib.Core.Path.{_∙_, ap, ap₂}
+use Prim.Native.Nat.{min}
+use denote.Ref.{now}
+use Rattle.model.specs.Sheet.{triples}
+use Rattle.model.specs.Interference.{share, shareOf, bclTerm}
+use Rattle.rows.specs.Words.{sheetOf}
+use Rattle.rows.proofs.Words.{cost-word, period-word}
+use Rattle.rows.proofs.Checks.{sound-row}
+use native.Mathlib.Omega.{arith}
 use Rattle.analysis.proofs.interference.capped_share.Statement.{statement}
 use Rattle.analysis.proofs.interference.capped_share.Tie as tie
+
+mul-at : tie.Need-mul-at
+mul-at c = search needs
+
+add-deadline : tie.Need-add-deadline
+add-deadline c = search needs
+
+add-period : tie.Need-add-period
+add-period c = search needs
 
 mul-bound : tie.Need-mul-bound
 mul-bound c = search needs
@@ -15,70 +27,59 @@ mul-bound c = search needs
 shared-slice-read-bound : tie.Need-shared-slice-read-bound
 shared-slice-read-bound c = search needs
 
-deadline-requires : tie.Need-deadline-requires
-deadline-requires c κs = search needs
+mul-share-in-window : tie.Need-mul-share-in-window
+mul-share-in-window c = search needs
 
-cost-requires : tie.Need-cost-requires
-cost-requires c κs = search needs
+shared-slice-read-share-in-window : tie.Need-shared-slice-read-share-in-window
+shared-slice-read-share-in-window c = search needs
 
-deadline-requires-2 : tie.Need-deadline-requires-2
-deadline-requires-2 c κs = search needs
+mul-share-in-window-2 : tie.Need-mul-share-in-window-2
+mul-share-in-window-2 c = search needs
 
-period-requires : tie.Need-period-requires
-period-requires c κs = search needs
+shared-slice-read-share-in-window-2 : tie.Need-shared-slice-read-share-in-window-2
+shared-slice-read-share-in-window-2 c = search needs
+
+mul-share-in-window-3 : tie.Need-mul-share-in-window-3
+mul-share-in-window-3 c = search needs
+
+shared-slice-read-share-in-window-3 : tie.Need-shared-slice-read-share-in-window-3
+shared-slice-read-share-in-window-3 c = search needs
 
 share-in-window-requires : tie.Need-share-in-window-requires
 share-in-window-requires c κs =
-    let p = c .before .before .before .before .before .before .before in
-    let sized = sound-row (now (p .args .words)) (p .pre .0 .rows) (p .args .other) (p .pre .2) in
-    let own = sound-row (now (p .args .words)) (p .pre .0 .rows) (p .args .row) (p .pre .1) in
-    omega arith
-
-cost-requires-2 : tie.Need-cost-requires-2
-cost-requires-2 c κs = search needs
-
-sub-lesser : tie.Need-sub-lesser
-sub-lesser c =
-    let p = c .before .before .before .before .before .before .before .before .before in
-    let own = sound-row (now (p .args .words)) (p .pre .0 .rows) (p .args .row) (p .pre .1) in
-    omega arith
-
-add-lesser : tie.Need-add-lesser
-add-lesser c =
-    let p = c .before .before .before .before .before .before .before .before .before in
-    let own = sound-row (now (p .args .words)) (p .pre .0 .rows) (p .args .row) (p .pre .1) in
-    omega arith
+    let p = c .before .before .before .before .before .before in
+    let words = now (p .args .words) in
+    let sized = sound-row words (p .pre .0 .rows) (p .args .other) (p .pre .2) in
+    let own = sound-row words (p .pre .0 .rows) (p .args .row) (p .pre .1) in
+    let cost = cost-word words (p .args .other) in
+    let period = period-word words (p .args .other) in
+    omega (arith, p .pre .3 .by-deadline)
 
 lesser-requires : tie.Need-lesser-requires
 lesser-requires c κs = search needs
 
--- The term, from what each call gave.
-term : {r taken window own c d t : ℕ} (b c′ d′ t′ window′ own′ : ℕ) → r ≡ min taken (window - own + 1)
-    → taken ≡ share c d t b window → c ≡ c′ → d ≡ d′ → t ≡ t′ → window ≡ window′ → own ≡ own′
-    → r ≡ min (share c′ d′ t′ b window′) (window′ - own′ + 1)
-term b c′ d′ t′ window′ own′ least taken cost deadline period window own = cc
-
 returns : tie.Need-returns
-unfolding shareOf bclTerm
+unfolding bclTerm shareOf sheetOf triples
 returns c =
-    let taken = c .before .before in
-    let other = taken .before in
-    term _ _ _ _ _ _ (c .lesser .ensures) (taken .share-in-window .ensures) (other .before .before .cost .ensures)
-    (other .before .deadline2 .ensures) (other .period .ensures) (other .before .before .before .deadline .ensures) (c .before .cost2 .ensures)
+    let p = c .before .before .before .before .before .before .before .before in
+    c .lesser .ensures
+    ∙ ap₂ min (c .before .share-in-window .ensures ∙ ap (share _ _ _ _) (p .pre .3 .by-deadline)) (p .pre .3 .by-cost)
 
 pub capped-share-spec : {M : Type 1} → statement M
 capped-share-spec =
     tie.close
     (tie.spec
+    mul-at
+    add-deadline
+    add-period
     mul-bound
     shared-slice-read-bound
-    deadline-requires
-    cost-requires
-    deadline-requires-2
-    period-requires
+    mul-share-in-window
+    shared-slice-read-share-in-window
+    mul-share-in-window-2
+    shared-slice-read-share-in-window-2
+    mul-share-in-window-3
+    shared-slice-read-share-in-window-3
     share-in-window-requires
-    cost-requires-2
-    sub-lesser
-    add-lesser
     lesser-requires
     returns)

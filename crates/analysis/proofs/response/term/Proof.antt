@@ -51,7 +51,7 @@ returns c =
     let other = p .args .other in
     let bounds = now (p .args .bounds) in
     let some-work = work-positive ((sheetOf words) .cost other) ((sheetOf words) .period other) (getD bounds other 0) (p .args .x)
-        (sound-row words (p .pre .0 .rows) other (p .pre .1) .positive) (bound-in-range words bounds (p .pre .0) other (p .pre .1) .0) (p .pre .3) in
+    (sound-row words (p .pre .0 .rows) other (p .pre .1) .positive) (bound-in-range words bounds (p .pre .0) other (p .pre .1) .0) (p .pre .3) in
     omega arith
 
 mul-at : tie.Need-mul-at
