@@ -1,23 +1,26 @@
 -- The whole answer: a refused sheet gets its line, and a sheet that was read is refused later only for want of room.
 use mathlib.Core.Path.{_≡_, refl, sym, _∙_, ap, ap₂}
-use mathlib.Core.List.{List}
+use mathlib.Core.List.{List, _++_}
 use Prim.Native.Nat.{ℕ, _*_, _≤_}
+use native.Mathlib.Decide.{ℕ-discrete}
+use native.Mathlib.Omega.{arith}
 use lib.ListN.{length, take, drop}
 use lib.Seq.{take-at}
 use Rattle.laws.proofs.Choice.{not-refused, is-refused, one-answer}
 use Rattle.laws.specs.Fill.{atFront}
+use Rattle.laws.proofs.Fill.{front-put}
 use Rattle.rows.specs.declared.Refusal.{Refusal}
 use Rattle.rows.specs.Words.{rowCount}
 use Rattle.rows.specs.Checks.{refused, methodRefusal, roomRefusal}
-use Rattle.rows.proofs.Checks.{allowed-processors}
+use Rattle.rows.proofs.Checks.{allowed-processors, enough-room}
 use Rattle.sheet.specs.declared.Read.{Read}
 use Rattle.sheet.specs.declared.Written.{Written}
 use Rattle.sheet.specs.Grammar.{processorsWritten, rowsWritten}
 use Rattle.sheet.specs.Lines.{wordsWritten}
 use Rattle.sheet.specs.Sheets.{readRefusal, readSheet, wordsAfter, writeAnswer}
-use Rattle.sheet.proofs.Refusals.{read-refused, words-length}
+use Rattle.sheet.proofs.Refusals.{read-refused, words-length, write-accepted}
 use Rattle.sheet.proofs.Entries.{Readable, read-number, read-found, read-answers, read-leaves}
-use Rattle.result.specs.Lines.{resultLength, refusalLine}
+use Rattle.result.specs.Lines.{head, line, resultLength, refusalLine}
 use Rattle.result.specs.Result.{resultOf, writeResult, resultAfter, mostWords, answerText, answerRefusal, answerSheet, answerAfter}
 use Rattle.result.proofs.Text.{refusal-length}
 use Rattle.result.proofs.Entries.{room-decides, result-of-length}
@@ -86,6 +89,30 @@ module _ (bytes zeros : List ℕ) (whole : length zeros ≡ 192) (read : Read) (
         ap (λ (r : Refusal). writeAnswer r (resultLength (rowCount words))) only ∙ fits .0,
         ap (λ (r : Refusal). atFront (r .number) (resultOf words m 1) out) only ∙ fits .1,
       )
+
+-- No answer is longer than the result sheet of 64 rows: a refused sheet's line is shorter, and a sheet that was read has no more rows.
+pub longest-answer : (bytes : List ℕ) → length (answerText bytes) ≤ resultLength 64
+unfolding answerText mostWords resultLength head line
+longest-answer bytes = decided (ℕ-discrete ((readRefusal bytes 192) .number) 0)
+  where
+    decided : Dec ((readRefusal bytes 192) .number ≡ 0) → length (answerText bytes) ≤ resultLength 64
+    decided (yes zero) =
+        let words = wordsWritten bytes in
+        let facts = read-found bytes 192 (read-number bytes 192 ∙ zero) in
+        let few : rowCount words ≤ 64 = facts .passed .sound .at-most in
+        rw (not-refused _ _ _ zero, result-of-length words (processorsWritten bytes) 1) (omega arith)
+    decided (no one-holds) = rw (is-refused _ _ _ one-holds, refusal-length) (omega arith)
+
+-- An answer that fits is given: its whole text stands at the front of the output, and its length is returned.
+pub whole-answer : (bytes out : List ℕ) → length (answerText bytes) ≤ length out
+    → (answerSheet bytes (length out) ≡ record { refusal = 0; place = 0; length = length (answerText bytes) })
+    × (answerAfter bytes out ≡ answerText bytes ++ drop (length (answerText bytes)) out)
+unfolding answerSheet answerAfter answerRefusal
+whole-answer bytes out enough =
+    let room = enough-room (length out) (length (answerText bytes)) enough in (
+      sym (write-accepted (answerRefusal bytes (length out)) (length (answerText bytes)) room),
+      sym (front-put ((answerRefusal bytes (length out)) .number) (answerText bytes) out room),
+    )
 
 -- Two results that the contracts allow are equal, and so are two written texts.
 pub write-result-unique : (words : List ℕ) (m method room : ℕ) (first second : Written) → first ≡ writeResult words m method room
