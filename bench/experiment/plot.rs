@@ -6,7 +6,7 @@ use crate::sets::{Experiment, Tally, RANGES};
 const WIDTH: f64 = 300.0;
 const HEIGHT: f64 = 200.0;
 const LEFT: f64 = 70.0;
-const TOP: f64 = 64.0;
+const TOP: f64 = 88.0;
 const ACROSS: f64 = WIDTH + 84.0;
 const DOWN: f64 = HEIGHT + 84.0;
 
@@ -68,23 +68,24 @@ fn axes(processors: u64, most: u64) -> String {
     drawn + &format!("<text transform=\"translate(-50,{}) rotate(-90)\" text-anchor=\"middle\">task sets</text>\n", HEIGHT / 2.0)
 }
 
-/// The names of the curves, beside a stroke of each.
-fn key() -> String {
+/// The names of the curves, each beside a stroke of it, in one line around a middle.
+fn key(middle: f64) -> String {
     let mut drawn = String::new();
     for (place, (name, colour, dashes)) in CURVES.iter().enumerate() {
-        let y = 14.0 + 16.0 * place as f64;
-        let (start, end) = (WIDTH - 64.0, WIDTH - 40.0);
-        drawn += &format!("<line x1=\"{start}\" y1=\"{y}\" x2=\"{end}\" y2=\"{y}\" stroke=\"{colour}\" stroke-width=\"2\" stroke-dasharray=\"{dashes}\"/>\n");
+        let start = middle - 110.0 + 80.0 * place as f64;
+        let end = start + 28.0;
         drawn += &format!(
-            "<text x=\"{}\" y=\"{}\">{name}</text>\n",
-            end + 6.0,
-            y + 4.0
+            "<line x1=\"{start}\" y1=\"42\" x2=\"{end}\" y2=\"42\" stroke=\"{colour}\" stroke-width=\"2\" stroke-dasharray=\"{dashes}\"/>\n"
+        );
+        drawn += &format!(
+            "<text x=\"{}\" y=\"46\" font-size=\"13\">{name}</text>\n",
+            end + 6.0
         );
     }
     drawn
 }
 
-/// One experiment's frame with its title, axes, curves and key.
+/// One experiment's frame with its title, axes and curves.
 fn frame(place: usize, experiment: &Experiment, tally: &Tally) -> String {
     let x = LEFT + ACROSS * (place % 3) as f64;
     let y = TOP + DOWN * (place / 3) as f64;
@@ -106,7 +107,7 @@ fn frame(place: usize, experiment: &Experiment, tally: &Tally) -> String {
         let points = points(counts, most);
         drawn += &format!("<polyline points=\"{points}\" fill=\"none\" stroke=\"{colour}\" stroke-width=\"2\" stroke-dasharray=\"{dashes}\"/>\n");
     }
-    drawn + &key() + "</g>\n"
+    drawn + "</g>\n"
 }
 
 /// The whole picture.
@@ -124,7 +125,8 @@ pub fn plot(results: &[(Experiment, Tally)]) -> String {
     format!(
         "<svg xmlns=\"http://www.w3.org/2000/svg\" viewBox=\"0 0 {width} {height}\" font-family=\"sans-serif\" font-size=\"11\">\n\
          <rect width=\"{width}\" height=\"{height}\" fill=\"white\"/>\n\
-         <text x=\"{}\" y=\"24\" text-anchor=\"middle\" font-size=\"16\">{title}</text>\n{frames}</svg>\n",
-        width / 2.0
+         <text x=\"{}\" y=\"24\" text-anchor=\"middle\" font-size=\"16\">{title}</text>\n{}{frames}</svg>\n",
+        width / 2.0,
+        key(width / 2.0)
     )
 }

@@ -1,5 +1,22 @@
 //! The same methods as the proved program's, written for speed in plain Rust: a row's shares once a turn, 32-bit arithmetic,
-//! RTA by climbing from the cost, the demand test from deadline to deadline up to the busy length.
+//! RTA by climbing from the cost, the demand test from deadline to deadline up to the busy length. Inputs are checked as there,
+//! but a refusal is only 0.
+
+/// Whether rows are within the sizes allowed.
+fn rows_allowed(words: &[u32]) -> bool {
+    let allowed =
+        |row: &[u32]| 1 <= row[0] && row[0] <= row[1] && row[1] <= row[2] && row[2] <= 1_000_000;
+    !words.is_empty()
+        && words.len() % 3 == 0
+        && words.len() <= 192
+        && words.chunks_exact(3).all(allowed)
+}
+
+/// Whether a question to refine is within the sizes allowed.
+fn refining_allowed(words: &[u32], processors: u32, method: u32, room: usize) -> bool {
+    let parameters = (1..=64).contains(&processors) && method <= 1 && room >= words.len() / 3;
+    parameters && rows_allowed(words)
+}
 
 /// Another row as a turn meets it: cost, period, bound less cost, and its share.
 #[derive(Clone, Copy, Default)]
@@ -134,6 +151,9 @@ fn start(words: &[u32], bounds: &mut [u32]) {
 
 /// Refines by the at-once engine; the marks of the last pass, which changed nothing, are the final ones.
 pub fn refine_at_once(words: &[u32], processors: u32, method: u32, bounds: &mut [u32]) -> u64 {
+    if !refining_allowed(words, processors, method, bounds.len()) {
+        return 0;
+    }
     start(words, bounds);
     loop {
         let (marks, changed) = sweep(words, processors, method, bounds);
@@ -145,6 +165,9 @@ pub fn refine_at_once(words: &[u32], processors: u32, method: u32, bounds: &mut 
 
 /// Refines by the rounds engine.
 pub fn refine_rounds(words: &[u32], processors: u32, method: u32, bounds: &mut [u32]) -> u64 {
+    if !refining_allowed(words, processors, method, bounds.len()) {
+        return 0;
+    }
     start(words, bounds);
     loop {
         let (marks, changed) = round(words, processors, method, bounds);
@@ -190,6 +213,9 @@ fn demand_and_next(words: &[u32], length: u32) -> (u32, u32) {
 
 /// The demand test: outcome (0 undecided, 1 miss, 2 fits) and length.
 pub fn one_processor(words: &[u32], horizon: u32) -> (u32, u32) {
+    if !rows_allowed(words) || !(1..=16_777_216).contains(&horizon) {
+        return (0, 0);
+    }
     let busy = busy_length(words, horizon);
     let last = busy.unwrap_or(horizon);
     let mut length = 1;

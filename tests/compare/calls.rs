@@ -40,19 +40,23 @@ fn bounds_for(rows: &[Row], random: &mut Random) -> Vec<u32> {
     rows.iter().map(&mut draw).collect()
 }
 
+/// The largest horizon allowed.
+const LARGEST: u64 = 16_777_216;
+
 /// The longest horizon that a kind is looked at with, so that looking at every length stays quick.
 fn longest_horizon(kind: Kind, random: &mut Random) -> u64 {
     match kind {
-        Kind::Far => random.one_of(&[16_777_216, 1_500_000, 1_500_000, 1_500_000]),
+        Kind::Far => random.one_of(&[LARGEST, 1_500_000, 1_500_000, 1_500_000]),
         Kind::Tiny | Kind::Full => 400,
         _ => 1500,
     }
 }
 
-/// A horizon: short, long, or at and around the length where the verdict falls.
+/// A horizon: short, long, or at and around the length where the verdict falls; where that is a miss, at times the largest,
+/// since no length behind the miss is looked at.
 fn horizon_for(kind: Kind, rows: &[Row], random: &mut Random) -> u32 {
     let longest = longest_horizon(kind, random);
-    let falls = |length: u64, random: &mut Random| {
+    let around = |length: u64, random: &mut Random| {
         (length + random.within(0, 2))
             .saturating_sub(1)
             .clamp(1, longest)
@@ -61,9 +65,10 @@ fn horizon_for(kind: Kind, rows: &[Row], random: &mut Random) -> u32 {
         0 => random.within(1, 12),
         1 => random.within(1, longest),
         2 => longest,
-        _ => match verdict(&DOCUMENT, rows, longest) {
+        choice => match verdict(&DOCUMENT, rows, longest) {
             Verdict::Undecided => longest,
-            Verdict::Miss(length) | Verdict::Fits(length) => falls(length, random),
+            Verdict::Miss(_) if choice == 3 => LARGEST - random.within(0, 1),
+            Verdict::Miss(length) | Verdict::Fits(length) => around(length, random),
         },
     };
     horizon as u32

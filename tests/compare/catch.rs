@@ -1,7 +1,7 @@
 //! The comparison tested: every wrong second program must differ from the proved one within the gate's checks.
 
 use crate::groups::Group;
-use crate::rounds::{checks_in_a_round, group_round, smallest, Found};
+use crate::rounds::{checks_in_a_round, group_round, how_many, smallest, Found};
 use crate::run::threads;
 use crate::show::call_shown;
 use crate::wrong::{wrong_programs, Wrong};
@@ -41,7 +41,8 @@ fn told(wrong: &Wrong, groups: &[Group], rounds: u64, seed: u64) -> (bool, Strin
 }
 
 /// Tries every wrong program, tells at which call it is caught and by which smallest call, and returns how many were and were not.
-pub fn catch_all(groups: &[Group], rounds: u64, seed: u64) -> (usize, usize) {
+pub fn catch_all(groups: &[Group], cases: u64, seed: u64) -> (usize, usize) {
+    let rounds = how_many(groups, cases);
     let programs = wrong_programs();
     let next = AtomicUsize::new(0);
     let told_of = Mutex::new(vec![(false, String::new()); programs.len()]);

@@ -65,12 +65,11 @@ fn checks_of_kind(kind: Kind) -> usize {
     }
 }
 
-/// The checks of an entry on a kind in a round. Lengths up to the largest horizon are for the one-processor test alone.
+/// The checks of an entry on a kind in a round. Large numbers of all sorts are not refined: two rows of them can take an hour.
 fn checks_of_entry(entry: Entry, kind: Kind) -> usize {
-    match (entry, kind) {
-        (Entry::OneProcessor, Kind::Far) => 1,
-        (_, Kind::Far) => 0,
-        (_, Kind::Heavy) if refines(entry) => 1,
+    match kind {
+        Kind::Far if refines(entry) => 0,
+        Kind::Heavy if refines(entry) => 1,
         _ => checks_of_kind(kind),
     }
 }

@@ -8,6 +8,7 @@ mod catch;
 mod damage;
 mod difference;
 mod groups;
+mod near;
 mod relations;
 mod rounds;
 mod run;
@@ -18,8 +19,11 @@ mod spoil;
 mod worked;
 mod wrong;
 
+use guarded::CALLS;
+use second::call::Entry;
 use second::random::Random;
 use std::process::ExitCode;
+use std::sync::atomic::Ordering;
 
 /// How many checks the gate makes.
 const GATE_CASES: u64 = 320_000;
@@ -57,28 +61,33 @@ fn asked(mut words: impl Iterator<Item = String>) -> Result<Asked, String> {
     Ok(asked)
 }
 
-/// The numbers worked by hand, as one group.
-fn worked() -> (usize, usize) {
-    let wrong = worked::wrong_cases(&mut Random::of([GATE_SEED]));
-    wrong
-        .iter()
-        .for_each(|case| println!("WORKED BY HAND {case}"));
-    if wrong.is_empty() {
+/// One group: it passes where it found nothing, and else says what.
+fn one_group(what: &str, found: Vec<String>) -> (usize, usize) {
+    found.iter().for_each(|line| println!("{what} {line}"));
+    if found.is_empty() {
         (1, 0)
     } else {
         (0, 1)
     }
 }
 
-/// Whether every kind of answer was met, as one group.
-fn all_met() -> (usize, usize) {
-    let never = sightings::never_met();
-    never.iter().for_each(|kind| println!("NEVER MET {kind}"));
-    if never.is_empty() {
-        (1, 0)
-    } else {
-        (0, 1)
-    }
+/// Everything compared: the numbers worked by hand, every text near a sheet's, random calls, and that all kinds of answer were met.
+fn compare_all(cases: u64, seed: u64) -> (usize, usize) {
+    let all = [groups::answer_groups(), groups::relation_groups()].concat();
+    let near = |entry: Entry| near::first_difference(entry).into_iter().collect();
+    let parts = [
+        one_group(
+            "WORKED BY HAND",
+            worked::wrong_cases(&mut Random::of([seed])),
+        ),
+        one_group("DIFFERENCE", near(Entry::ReadSheet)),
+        one_group("DIFFERENCE", near(Entry::AnswerSheet)),
+        run::compare(&all, rounds::how_many(&all, cases), seed),
+        one_group("NEVER MET", sightings::never_met()),
+    ];
+    println!("{} calls, seed {seed}", CALLS.load(Ordering::Relaxed));
+    let sum = |one: (usize, usize), other: &(usize, usize)| (one.0 + other.0, one.1 + other.1);
+    parts.iter().fold((0, 0), sum)
 }
 
 /// Compares or tests the comparison, and says how many groups passed and failed.
@@ -90,24 +99,10 @@ fn main() -> ExitCode {
             return ExitCode::from(2);
         }
     };
-    let answers = groups::answer_groups();
-    let all = [answers.clone(), groups::relation_groups()].concat();
-    let rounds = |groups: &[groups::Group]| {
-        asked
-            .cases
-            .div_ceil(rounds::checks_in_a_round(groups))
-            .max(1)
-    };
     let (passed, failed) = if asked.wrong {
-        catch::catch_all(&answers, rounds(&answers), asked.seed)
+        catch::catch_all(&groups::answer_groups(), asked.cases, asked.seed)
     } else {
-        let by_hand = worked();
-        let compared = run::compare(&all, rounds(&all), asked.seed);
-        let met = all_met();
-        (
-            by_hand.0 + compared.0 + met.0,
-            by_hand.1 + compared.1 + met.1,
-        )
+        compare_all(asked.cases, asked.seed)
     };
     println!("{passed} passed, {failed} failed");
     if failed == 0 {

@@ -219,22 +219,20 @@ fn processor_hurts(call: &Call, random: &mut Random) -> Option<String> {
     })
 }
 
-/// The sheet written, read and written again.
+/// The sheet written and read back.
 fn not_back(call: &Call, random: &mut Random) -> Option<String> {
-    let text = bytes_of(&made(&asked(call, Entry::WriteSheet), random));
-    let read = made(
-        &Call {
-            text: text.clone(),
-            ..asked(call, Entry::ReadSheet)
-        },
-        random,
-    );
-    if read.numbers[0] == 8 {
+    let written = made(&asked(call, Entry::WriteSheet), random);
+    if written.numbers[0] != 0 {
         return None;
     }
+    let reading = Call {
+        text: bytes_of(&written),
+        ..asked(call, Entry::ReadSheet)
+    };
+    let read = made(&reading, random);
     let words: Vec<u64> = call.words.iter().map(|&word| word as u64).collect();
-    let same = read.numbers == [0, 0, call.processors as u64, words.len() as u64 / 3]
-        && read.after == words;
+    let numbers = [0, 0, call.processors as u64, words.len() as u64 / 3];
+    let same = read.numbers == numbers && read.after == words;
     (!same).then(|| format!("read back {:?} {:?}", read.numbers, read.after))
 }
 

@@ -22,6 +22,11 @@ pub fn checks_in_a_round(groups: &[Group]) -> u64 {
     groups.iter().map(|group| group.checks as u64).sum()
 }
 
+/// How many rounds make so many checks or a few more.
+pub fn how_many(groups: &[Group], checks: u64) -> u64 {
+    checks.div_ceil(checks_in_a_round(groups)).max(1)
+}
+
 /// Makes one group's checks of a round, and stops at the first that finds something wrong.
 pub fn group_round(
     program: &Program,

@@ -3,7 +3,6 @@
 use crate::groups::Group;
 use crate::rounds::{checks_in_a_round, group_round, smallest, Found};
 use crate::show::call_shown;
-use guarded::CALLS;
 use second::program::DOCUMENT;
 use std::io::{stderr, IsTerminal, Write};
 use std::sync::atomic::{AtomicU64, Ordering};
@@ -41,11 +40,6 @@ pub fn compare(groups: &[Group], rounds: u64, seed: u64) -> (usize, usize) {
         }
         scope.spawn(|| progress(groups, &shared));
     });
-    println!(
-        "{} calls in {} groups, seed {seed}",
-        CALLS.load(Ordering::Relaxed),
-        groups.len()
-    );
     let found: Vec<Found> = shared
         .found
         .into_inner()

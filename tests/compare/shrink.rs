@@ -195,18 +195,19 @@ fn smaller_text(call: &Call) -> Vec<Call> {
         .collect()
 }
 
-/// The text with one line less and a row less announced, where the first line can be read.
+/// The row count that line one announces, where it is there and above 0.
+fn announced(text: &[u8]) -> Option<u8> {
+    let first = text.split(|&byte| byte == 0x0A).next()?;
+    let digits = std::str::from_utf8(first.get(4..6)?).ok()?;
+    u8::from_str_radix(digits, 16).ok().filter(|&rows| rows > 0)
+}
+
+/// The text with one line less and a row less announced, where line one announces rows.
 fn fewer_lines(text: &[u8]) -> Vec<Vec<u8>> {
-    let lines: Vec<&[u8]> = text.split_inclusive(|&byte| byte == 0x0A).collect();
-    let announced = text
-        .get(4..6)
-        .and_then(|digits| std::str::from_utf8(digits).ok());
-    let Some(rows) = announced
-        .and_then(|digits| u8::from_str_radix(digits, 16).ok())
-        .filter(|&rows| rows > 0)
-    else {
+    let Some(rows) = announced(text) else {
         return Vec::new();
     };
+    let lines: Vec<&[u8]> = text.split_inclusive(|&byte| byte == 0x0A).collect();
     let without = |left_out: usize| {
         let kept = (0..lines.len()).filter(|&index| index != left_out);
         let mut shorter: Vec<u8> = kept.flat_map(|index| lines[index].to_vec()).collect();

@@ -33,7 +33,7 @@ pub struct Lent<T> {
 impl<T: Element> Lent<T> {
     /// Lends these contents. The guards differ from call to call, so that an answer that hangs on them is seen as well.
     pub fn new(contents: &[T], random: &mut Random) -> Lent<T> {
-        let mut guard = || -> Vec<T> { (0..GUARD).map(|_| T::of(random.next())).collect() };
+        let mut guard = || -> Vec<T> { (0..GUARD).map(|_| T::of(random.bits())).collect() };
         let all = [guard(), contents.to_vec(), guard()].concat();
         let as_null = contents.is_empty() && random.once_in(2);
         Lent {
@@ -45,7 +45,7 @@ impl<T: Element> Lent<T> {
 
     /// Lends an output of so many random elements.
     pub fn room(room: usize, random: &mut Random) -> Lent<T> {
-        let contents: Vec<T> = (0..room).map(|_| T::of(random.next())).collect();
+        let contents: Vec<T> = (0..room).map(|_| T::of(random.bits())).collect();
         Lent::new(&contents, random)
     }
 

@@ -11,13 +11,13 @@ impl Random {
     pub fn of(numbers: impl IntoIterator<Item = u64>) -> Random {
         let mut random = Random { state: 0 };
         for number in numbers {
-            random.state = random.next() ^ number;
+            random.state = random.bits() ^ number;
         }
         random
     }
 
     /// The next 64 random bits.
-    pub fn next(&mut self) -> u64 {
+    pub fn bits(&mut self) -> u64 {
         self.state = self.state.wrapping_add(0x9E37_79B9_7F4A_7C15);
         let mut mixed = self.state;
         mixed = (mixed ^ (mixed >> 30)).wrapping_mul(0xBF58_476D_1CE4_E5B9);
@@ -27,17 +27,17 @@ impl Random {
 
     /// A number from one to another, both possible.
     pub fn within(&mut self, low: u64, high: u64) -> u64 {
-        low + self.next() % (high - low + 1)
+        low + self.bits() % (high - low + 1)
     }
 
     /// A number below another, for places in lists.
     pub fn below(&mut self, count: usize) -> usize {
-        (self.next() % count as u64) as usize
+        (self.bits() % count as u64) as usize
     }
 
     /// True once in so many times.
     pub fn once_in(&mut self, times: u64) -> bool {
-        self.next() % times == 0
+        self.bits() % times == 0
     }
 
     /// One of the choices.
@@ -47,7 +47,7 @@ impl Random {
 
     /// A number from 0 up to 1, without 1.
     pub fn fraction(&mut self) -> f64 {
-        (self.next() >> 11) as f64 / (1u64 << 53) as f64
+        (self.bits() >> 11) as f64 / (1u64 << 53) as f64
     }
 
     /// The places below a count in a random order.
