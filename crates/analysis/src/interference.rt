@@ -11,12 +11,15 @@ ghost use Rattle.model.specs.Interference.{share, carried, bclTerm};
 ghost use Rattle.rows.specs.Words.{rowCount, sheetOf};
 ghost use Rattle.analysis.specs.Inner.{Ready, WindowOf, shares};
 
-// The demand share of a row in a deadline window.
+// The demand share of a row in a deadline window. Of the rest of the window behind whole periods it takes what lies between the slack and
+// the slack and the cost: a difference of two minima, in which nothing is to be guessed by the processor.
 pub(crate) fn share_in_window(cost: u32, deadline: u32, period: u32, bound: u32, window: u32) -> u32
-    requires { ⌜ (cost ≤ period) × (1 ≤ period) × (period ≤ 1_000_000) × (window ≤ 1_000_000) ⌝ }
+    requires { ⌜ (cost ≤ period) × (1 ≤ period) × (period ≤ 1_000_000) × (window ≤ 1_000_000) × (deadline ≤ 1_000_000) ⌝ }
     ensures { λ r. ⌜ r ≡ share cost deadline period bound window ⌝ }
 {
-    window / period * cost + lesser(cost, less(window % period, less(deadline, bound)))
+    let rest = window % period;
+    let slack = less(deadline, bound);
+    window / period * cost + (lesser(rest, slack + cost) - lesser(rest, slack))
 }
 
 // The work of a row in a time that is counted from its cost before the window's start.

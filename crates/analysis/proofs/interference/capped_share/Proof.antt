@@ -6,7 +6,7 @@ use denote.Ref.{now}
 use Rattle.model.specs.Sheet.{triples}
 use Rattle.model.specs.Interference.{share, shareOf, bclTerm}
 use Rattle.rows.specs.Words.{sheetOf}
-use Rattle.rows.proofs.Words.{cost-word, period-word}
+use Rattle.rows.proofs.Words.{cost-word, deadline-word, period-word}
 use Rattle.rows.proofs.Checks.{sound-row}
 use native.Mathlib.Omega.{arith}
 use Rattle.analysis.proofs.interference.capped_share.Statement.{statement}
@@ -52,6 +52,7 @@ share-in-window-requires c κs =
     let sized = sound-row words (p .pre .0 .rows) (p .args .other) (p .pre .2) in
     let own = sound-row words (p .pre .0 .rows) (p .args .row) (p .pre .1) in
     let cost = cost-word words (p .args .other) in
+    let deadline = deadline-word words (p .args .other) in
     let period = period-word words (p .args .other) in
     omega (arith, p .pre .3 .by-deadline)
 

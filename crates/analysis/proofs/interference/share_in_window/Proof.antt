@@ -1,4 +1,5 @@
--- `share_in_window` is the share of document 01: whole periods cost no more than the window, so nothing overflows.
+-- `share_in_window` is the share of document 01: whole periods cost no more than the window, so nothing overflows, and what lies between two
+-- marks of the rest is the difference of what lies before each.
 use native.Mathlib.Omega.{arith}
 use Rattle.model.specs.Interference.{share}
 use Rattle.analysis.proofs.Limits.{periods-within}
@@ -6,23 +7,29 @@ use borrow.Author.Needs.{needs}
 use Rattle.analysis.proofs.interference.share_in_window.Statement.{statement}
 use Rattle.analysis.proofs.interference.share_in_window.Tie as tie
 
-div-result : tie.Need-div-result
-div-result c = search needs
-
-mul-result : tie.Need-mul-result
-mul-result c = let a = c .args in omega (arith, periods-within (a .window) (a .period) (a .cost) (c .pre .0))
-
-rem-less : tie.Need-rem-less
-rem-less c = search needs
+rem-rest : tie.Need-rem-rest
+rem-rest c = search needs
 
 less-requires : tie.Need-less-requires
 less-requires c κs = search needs
 
-less-requires-2 : tie.Need-less-requires-2
-less-requires-2 c κs = search needs
+div-result : tie.Need-div-result
+div-result c = search needs
+
+mul-result : tie.Need-mul-result
+mul-result c = let p = c .before in omega (arith, periods-within (p .args .window) (p .args .period) (p .args .cost) (p .pre .0))
+
+add-lesser : tie.Need-add-lesser
+add-lesser c = search needs
 
 lesser-requires : tie.Need-lesser-requires
 lesser-requires c κs = search needs
+
+lesser-requires-2 : tie.Need-lesser-requires-2
+lesser-requires-2 c κs = search needs
+
+sub-result : tie.Need-sub-result
+sub-result c = search needs
 
 add-result : tie.Need-add-result
 add-result c =
@@ -37,11 +44,13 @@ pub share-in-window-spec : {M : Type 1} → statement M
 share-in-window-spec =
     tie.close
     (tie.spec
+    rem-rest
+    less-requires
     div-result
     mul-result
-    rem-less
-    less-requires
-    less-requires-2
+    add-lesser
     lesser-requires
+    lesser-requires-2
+    sub-result
     add-result
     returns)
