@@ -2,6 +2,7 @@ pub mod Sheet
 pub mod Interference
 pub mod Answer
 pub mod Refine
+pub mod Ray
 pub mod Engines
 pub mod Methods
 pub mod Demand

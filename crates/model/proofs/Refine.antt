@@ -112,28 +112,33 @@ module _ (s : Sheet) (ask : Ask) (regular : Regular s ask) where
             record { one-each = held .one-each; by-turn = λ k h. ap (λ (l : List ℕ). getD l k 0) (sym still) ∙ round-at R k h };
       }
 
+  -- What holds of the row put in place and of a row left alone holds of each row.
+  after-one : (P : ℕ → ℕ → Type 0) (R : List ℕ) (k x : ℕ) → length R ≡ s .rows → k < s .rows → P k x → (j : ℕ) → P j (getD R j 0)
+      → P j (getD (set R k x) j 0)
+  after-one P R k x one-each h put j left = decided (ℕ-discrete j k)
+    where
+      decided : Dec (j ≡ k) → P j (getD (set R k x) j 0)
+      decided (yes here) = rw (here, getD-set-same R k x 0 (rw one-each h)) put
+      decided (no other) = rw (getD-set-other R k j x 0 other) left
+
+  pub one-lowers : (R : List ℕ) (k x : ℕ) → length R ≡ s .rows → k < s .rows → x ≤ getD R k 0 → Below (s .rows) (set R k x) R
+  one-lowers R k x one-each h lower j inside = after-one (λ j y. y ≤ getD R j 0) R k x one-each h lower j (le-refl (getD R j 0))
+
+  -- DOWN: a row lowered to any number that its turn does not pass. How the number was found needs no word.
+  pub down : (R : List ℕ) (k x : ℕ) → Held s ask R → k < s .rows → turn s ask k R ≤ x → x ≤ getD R k 0 → Held s ask (set R k x)
+  down R k x held h no-further lower =
+      lowered R (set R k x) held (length-set R k x ∙ held .one-each) (one-lowers R k x (held .one-each) h lower)
+      (λ j inside. after-one (λ j y. turn s ask j R ≤ y) R k x (held .one-each) h no-further j (held .falls j inside))
+
   -- One turn in place: its row holds the turn, every other row what it held.
   one-turn-at : (R : List ℕ) (k : ℕ) → length R ≡ s .rows → k < s .rows → getD (set R k (turn s ask k R)) k 0 ≡ turn s ask k R
   one-turn-at R k one-each h = getD-set-same R k (turn s ask k R) 0 (rw one-each h)
 
-  -- What holds of the turned row and of a row left alone holds of each row.
-  after-one-turn : (P : ℕ → ℕ → Type 0) (R : List ℕ) (k : ℕ) → length R ≡ s .rows → k < s .rows
-      → P k (turn s ask k R) → (j : ℕ) → P j (getD R j 0) → P j (getD (set R k (turn s ask k R)) j 0)
-  after-one-turn P R k one-each h turned j left = decided (ℕ-discrete j k)
-    where
-      decided : Dec (j ≡ k) → P j (getD (set R k (turn s ask k R)) j 0)
-      decided (yes here) = rw (here, one-turn-at R k one-each h) turned
-      decided (no other) = rw (getD-set-other R k j (turn s ask k R) 0 other) left
-
   pub one-turn-lowers : (R : List ℕ) (k : ℕ) → Held s ask R → k < s .rows → Below (s .rows) (set R k (turn s ask k R)) R
-  one-turn-lowers R k held h j inside =
-      after-one-turn (λ j x. x ≤ getD R j 0) R k (held .one-each) h (held .falls k h) j (le-refl (getD R j 0))
+  one-turn-lowers R k held h = one-lowers R k (turn s ask k R) (held .one-each) h (held .falls k h)
 
   pub one-turn-held : (R : List ℕ) (k : ℕ) → Held s ask R → k < s .rows → Held s ask (set R k (turn s ask k R))
-  one-turn-held R k held h =
-      lowered R (set R k (turn s ask k R)) held (length-set R k (turn s ask k R) ∙ held .one-each) (one-turn-lowers R k held h)
-      (λ j inside.
-      after-one-turn (λ j x. turn s ask j R ≤ x) R k (held .one-each) h (le-refl (turn s ask k R)) j (held .falls j inside))
+  one-turn-held R k held h = down R k (turn s ask k R) held h (le-refl (turn s ask k R)) (held .falls k h)
 
   -- A sweep over the first rows is so many turns in place.
   pub sweep-held : (R : List ℕ) → Held s ask R → (k : ℕ) → k ≤ s .rows → Held s ask (sweep s ask k R)
