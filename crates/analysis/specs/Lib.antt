@@ -1,3 +1,4 @@
 pub mod Question
 pub mod Refinement
 pub mod Inner
+pub mod Ray

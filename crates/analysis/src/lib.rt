@@ -2,6 +2,7 @@
 mod checks;
 mod interference;
 mod passes;
+mod ray;
 mod response;
 
 use checks::question_refusal;

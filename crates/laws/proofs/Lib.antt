@@ -6,3 +6,4 @@ pub mod Climb
 pub mod Fill
 pub mod Cuts
 pub mod Bits
+pub mod Line

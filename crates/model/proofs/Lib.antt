@@ -3,6 +3,7 @@ pub mod Interference
 pub mod Answer
 pub mod Refine
 pub mod Ray
+pub mod Lines
 pub mod Engines
 pub mod Methods
 pub mod Demand
