@@ -57,12 +57,16 @@ pub record Lower (v s l v′ s′ l′ value slope limit : ℕ) : Type 0 where
   pub second : value ≤ v′
   pub lies : (f g : ℕ → ℕ) (most : ℕ) → Lies f most v s l → Lies g most v′ s′ l′ → Lies (λ t. min (f t) (g t)) most value slope limit
 
+-- No drop above a million, one for each of n rows.
+pub record Small (n : ℕ) (drops : List ℕ) : Type 0 where
+  pub one-each : length drops ≡ n
+  pub each : (i : ℕ) → i < n → getD drops i 0 ≤ 1_000_000
+
 -- What a row's way down asks: checked words, bounds in range, a drop for each row, and room for the steps asked for.
 pub record OnWay (words R drops : List ℕ) (row most : ℕ) : Type 0 where
   pub ready : Ready words R
-  pub one-drop-each : length drops ≡ rowCount words
   pub inside : row < rowCount words
-  pub small : (i : ℕ) → i < rowCount words → getD drops i 0 ≤ 1_000_000
+  pub drops-small : Small (rowCount words) drops
   pub room : (t : ℕ) → t < most → (i : ℕ) → i < rowCount words → t * getD drops i 0 + (sheetOf words) .cost i ≤ getD R i 0
   pub own : most * getD drops row 0 + (sheetOf words) .cost row ≤ getD R row 0
 
@@ -102,15 +106,13 @@ pub record Reaches (s : Sheet) (ask : Ask) (R drops : List ℕ) (row most steps 
   pub falls : Falls s ask R drops row steps
 
 -- Every row has room for so many steps.
-pub record Roomy (words R drops : List ℕ) (most : ℕ) : Type 0 where
-  pub one-drop-each : length drops ≡ rowCount words
-  pub small : (i : ℕ) → i < rowCount words → getD drops i 0 ≤ 1_000_000
-  pub room : (i : ℕ) → i < rowCount words → most * getD drops i 0 + (sheetOf words) .cost i ≤ getD R i 0
+abbrev pub Roomy : List ℕ → List ℕ → List ℕ → ℕ → Type 0
+Roomy words R drops most = (i : ℕ) → i < rowCount words → most * getD drops i 0 + (sheetOf words) .cost i ≤ getD R i 0
 
 -- What a pass down the ray leaves: lower bounds, and so many further steps that may be made at once.
 pub record Lowered (words : List ℕ) (ask : Ask) (before after drops : List ℕ) (further : ℕ) : Type 0 where
   pub below : Below (rowCount words) after before
-  pub one-drop-each : length drops ≡ rowCount words
-  pub small : (i : ℕ) → i < rowCount words → getD drops i 0 ≤ 1_000_000
+  pub drops-small : Small (rowCount words) drops
   pub room : (i : ℕ) → i < rowCount words → further * getD drops i 0 ≤ getD after i 0
+  pub one-each : length after ≡ rowCount words
   pub ahead : Held (sheetOf words) ask (along (rowCount words) after drops further)

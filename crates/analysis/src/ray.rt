@@ -10,8 +10,10 @@ ghost use lib.ListN.{length, getD};
 ghost use Rattle.model.specs.Answer.{methodOf};
 ghost use Rattle.model.specs.Interference.{share, carried};
 ghost use Rattle.rows.specs.Words.{rowCount, sheetOf};
+ghost use Rattle.model.proofs.Refine.{Held};
+ghost use Rattle.analysis.specs.Inner.{Ready};
 ghost use Rattle.analysis.specs.Refinement.{askOf};
-ghost use Rattle.analysis.specs.Ray.{termAlong, capAlong, addedAlong, sumAlong, Lies, Lasts, FallsFrom, Lower, OnWay, Aimed, SmallLine, SumLine, StaysBelow, Reaches};
+ghost use Rattle.analysis.specs.Ray.{termAlong, capAlong, addedAlong, sumAlong, Lies, Lasts, FallsFrom, Lower, OnWay, Aimed, SmallLine, SumLine, StaysBelow, Reaches, Small, Roomy, Lowered};
 
 // A line that begins at a value and falls by a slope a step, and for how many steps it holds.
 pub(crate) struct Line {
@@ -273,4 +275,63 @@ pub(crate) fn row_reach(
         processors * fall,
         processors * (first - words[own] + 1),
     )
+}
+
+// How many of its drops a row has above its cost.
+pub(crate) fn row_room(words: &[u32], bounds: &[u32], drops: &[u32], row: u32) -> u32
+    requires { ⌜ Ready (now words) (now bounds) × (length (now drops) ≡ rowCount (now words)) × (row < rowCount (now words)) ⌝ }
+    ensures { λ r. ⌜ r * getD (now (drops .entry)) row 0 + (sheetOf (now (words .entry))) .cost row ≤ getD (now (bounds .entry)) row 0 ⌝ }
+{
+    let at = 3 * (row as usize);
+    let drop = drops[row as usize];
+    if drop == 0 {
+        return 1_000_000;
+    }
+    (bounds[row as usize] - words[at]) / drop
+}
+
+// How many steps every row has room for.
+pub(crate) fn most_steps(words: &[u32], bounds: &[u32], drops: &[u32], count: u32) -> u32
+    requires { ⌜ Ready (now words) (now bounds) × (count ≡ rowCount (now words)) × (length (now drops) ≡ count) ⌝ }
+    ensures { λ r. ⌜ Roomy (now (words .entry)) (now (bounds .entry)) (now (drops .entry)) r ⌝ }
+{
+    let mut most = 1_000_000;
+    let mut row = 0;
+    while row < count {
+        most = lesser(most, row_room(words, bounds, drops, row));
+        row += 1;
+    }
+    most
+}
+
+// One step down the ray, row by row, as long as each row's turn allows it, and how many more may be made at once. A row that is not
+// allowed its drop loses it, and the ray ends there.
+pub(crate) fn ray_pass(
+    words: &[u32],
+    bounds: &mut [u32],
+    drops: &mut [u32],
+    processors: u32,
+    method: u32,
+    count: u32,
+    most: u32,
+) -> u32
+    requires { ⌜ Ready (now words) (now bounds) × (count ≡ rowCount (now words)) × (1 ≤ processors) × Held (sheetOf (now words)) (askOf (now words) processors method) (now bounds) × (processors ≤ 64) × Small (rowCount (now words)) (now drops) × Roomy (now words) (now bounds) (now drops) most ⌝ }
+    ensures { λ r. ⌜ Lowered (now (words .entry)) (askOf (now (words .entry)) processors method) (now (bounds .entry)) (now (bounds .exit)) (now (drops .exit)) r ⌝ }
+{
+    let mut steps = most;
+    let mut row = 0;
+    while row < count {
+        let drop = drops[row as usize];
+        if drop != 0 {
+            let reach = row_reach(words, bounds, drops, row, count, processors, method, steps);
+            if reach == 0 {
+                drops[row as usize] = 0;
+                return 0;
+            }
+            steps = reach;
+            bounds[row as usize] = bounds[row as usize] - drop;
+        }
+        row += 1;
+    }
+    less(steps, 1)
 }

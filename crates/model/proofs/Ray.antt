@@ -27,11 +27,11 @@ unfoldable pub within : List ℕ → List ℕ → ℕ → ℕ → ℕ → ℕ
 within R drops k t i = pick (ltb i k) (getD R i 0 - (t + 1) * getD drops i 0) (getD R i 0 - t * getD drops i 0)
 
 module _ (R drops : List ℕ) (k t i : ℕ) where
-  within-gone : i < k → within R drops k t i ≡ getD R i 0 - (t + 1) * getD drops i 0
+  pub within-gone : i < k → within R drops k t i ≡ getD R i 0 - (t + 1) * getD drops i 0
   unfolding within
   within-gone h = pick-yes _ _ _ (lt-ltb i k h)
 
-  within-left : k ≤ i → within R drops k t i ≡ getD R i 0 - t * getD drops i 0
+  pub within-left : k ≤ i → within R drops k t i ≡ getD R i 0 - t * getD drops i 0
   unfolding within
   within-left h = pick-no _ _ _ (le-ltb i k h)
 
@@ -48,7 +48,7 @@ module _ (n : ℕ) (R drops : List ℕ) where
   unfolding stage
   stage-length k t = listed-length (within R drops k t) n
 
-  stage-at : (k t i : ℕ) → i < n → getD (stage n R drops k t) i 0 ≡ within R drops k t i
+  pub stage-at : (k t i : ℕ) → i < n → getD (stage n R drops k t) i 0 ≡ within R drops k t i
   unfolding stage
   stage-at k t i h = listed-at (within R drops k t) n i h
 
@@ -250,10 +250,11 @@ module _ (s : Sheet) (ask : Ask) (regular : Regular s ask) (R drops : List ℕ) 
         moves j here some = let own : 1 ≤ getD drops k 0 = rw here at some in omega arith
 
   -- Behind the last row the rest of the steps may be made at once.
-  pub ray-ahead : (steps : ℕ) (now : List ℕ) → Held s ask R → OnRay s ask R drops (s .rows) steps now
+  pub ray-ahead : (k steps : ℕ) (now : List ℕ) → k ≡ s .rows → Held s ask R → OnRay s ask R drops k steps now
       → Held s ask (along (s .rows) now drops (steps - 1))
-  ray-ahead zero now held on = rw (along-none (s .rows) now drops (on .held .one-each)) (on .held)
-  ray-ahead (suc t) now held on =
+  ray-ahead k zero now all held on = rw (along-none (s .rows) now drops (on .held .one-each)) (on .held)
+  ray-ahead k (suc t) now all held on =
       let before : suc t - 1 ≡ t = omega arith in
-      rw (before, on .place, stage-along (s .rows) R drops (s .rows) t, stage-last (s .rows) R drops t, add-one t)
-      (ray-held (suc t) held (on .allowed))
+      let place : now ≡ stage (s .rows) R drops (s .rows) 0 = on .place ∙ ap (λ (j : ℕ). stage (s .rows) R drops j 0) all in
+      rw (before, place, stage-along (s .rows) R drops (s .rows) t, stage-last (s .rows) R drops t, add-one t)
+      (ray-held (suc t) held (λ j h. on .allowed j (omega arith)))

@@ -83,7 +83,7 @@ sum-of-lines-requires : tie.Need-sum-of-lines-requires
 sum-of-lines-requires c κs = let p = c .before .before .before .before .before .before .before .before in (p .pre .0, aimed p, p .pre .1, c .cap-line .ensures)
 
 mul-steps-below-2 : tie.Need-mul-steps-below-2
-mul-steps-below-2 c = let p = c .before .before .before .before .before .before .before .before .before in omega (arith, product-small (p .args .processors) _ (p .pre .3) (p .pre .0 .small (p .args .row) (p .pre .0 .inside)))
+mul-steps-below-2 c = let p = c .before .before .before .before .before .before .before .before .before in omega (arith, product-small (p .args .processors) _ (p .pre .3) (p .pre .0 .drops-small .each (p .args .row) (p .pre .0 .inside)))
 
 mul-steps-below-3 : tie.Need-mul-steps-below-3
 mul-steps-below-3 c = search needs

@@ -91,10 +91,10 @@ sizes s =
       small = omega arith;
       from-cost = omega arith;
       by-limit = omega arith;
-      small-drop = way .small other (s .pre .2);
+      small-drop = way .drops-small .each other (s .pre .2);
       small-window = omega (arith, aim .by-deadline);
       small-first = omega (arith, aim .by-bound);
-      small-fall = omega (arith, aim .by-drop, way .small row (way .inside));
+      small-fall = omega (arith, aim .by-drop, way .drops-small .each row (way .inside));
       in-words = omega (arith, way .ready .rows);
     }
 
