@@ -37,6 +37,7 @@ deadlines-ready words sound =
 pub record Refining (words : List ℕ) (m room : ℕ) : Type 0 where
   pub rows : SoundRows words
   pub processors : 1 ≤ m
+  pub few : m ≤ 64
   pub enough : rowCount words ≤ room
 
 pub refining : (words : List ℕ) (m method room : ℕ) → (refineRefusal words m method room) .number ≡ 0 → Refining words m room
@@ -48,6 +49,7 @@ refining words m method room zero =
     record {
       rows = facts .rows;
       processors = allowed-processors m (checks.processors-allowed m (four .0)) .0;
+      few = allowed-processors m (checks.processors-allowed m (four .0)) .1;
       enough = checks.room-enough room (rowCount words) (five .1);
     }
 

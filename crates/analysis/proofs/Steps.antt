@@ -26,7 +26,7 @@ use Rattle.model.specs.Refine.{Ask, turn, round, sweep, marked, marks}
 use Rattle.model.proofs.Refine.{Regular, Held, Pass, turn-from-cost, one-turn-lowers, sweep-held, sweep-lowers, round-pass, sum-falls}
 use Rattle.model.proofs.Methods.{answer-regular}
 use Rattle.rows.specs.declared.Found.{Found}
-use Rattle.rows.specs.Words.{sheetOf, foundOf}
+use Rattle.rows.specs.Words.{rowCount, sheetOf, foundOf}
 use Rattle.rows.proofs.Words.{sheet-rows}
 use Rattle.rows.proofs.Checks.{sound-row}
 use Rattle.analysis.specs.Refinement.{askOf}
@@ -201,6 +201,12 @@ pub pass-on : (words : List ℕ) (ask : Ask) → Regular (sheetOf words) ask →
 pass-on words ask regular pass is-pass R R′ ready held passed =
     let kept : Held (sheetOf words) ask R′ = rw passed (is-pass .keeps R held) in
     (ready-lower words ask regular R R′ ready kept (rw passed (is-pass .lowers R held)), kept)
+
+-- Lower bounds have no larger sum.
+pub sum-lower : (words R R′ : List ℕ) → Below (rowCount words) R′ R → boundsSum (sheetOf words) R′ ≤ boundsSum (sheetOf words) R
+unfolding boundsSum
+sum-lower words R R′ below =
+    total-mono (λ k. getD R′ k 0) (λ k. getD R k 0) ((sheetOf words) .rows) (λ i h. below i (rw sheet-rows at h))
 
 -- A round, copied back, has done what a pass does.
 pub round-done : (s : Sheet) (ask : Ask) → Regular s ask → (R R′ new : List ℕ) (moved : Bool) (seen : ℕ) → Held s ask R

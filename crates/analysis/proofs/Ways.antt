@@ -25,11 +25,13 @@ use Rattle.model.specs.Refine.{Ask, turn}
 use Rattle.model.specs.Ray.{along, Falls}
 use Rattle.model.proofs.Answer.{method-zero, method-other, answer-fixed, answer-within, rta-below}
 use Rattle.model.proofs.Refine.{Regular, Held}
-use Rattle.model.proofs.Ray.{next-step, within, within-gone, within-left, stage-at, along-none, OnRay, ray-bound, ray-on, ray-skip, ray-ahead}
+use Rattle.model.proofs.Ray.{next-step, within, within-gone, within-left, stage-at, along-none, along-lower, OnRay, ray-bound, ray-on, ray-skip, ray-ahead}
 use Rattle.rows.specs.Words.{rowCount, sheetOf}
 use Rattle.rows.proofs.Words.{sheet-rows}
-use Rattle.analysis.specs.Ray.{termBy, capBy, stepTo, termAlong, capAlong, addedAlong, sumAlong, Lies, OnWay, Aimed, SmallLine, SumLine, StaysBelow, Reaches, Small, Roomy, Lowered}
+use Rattle.analysis.specs.Ray.{termBy, capBy, stepTo, termAlong, capAlong, addedAlong, sumAlong, Lies, OnWay, Aimed, SmallLine, SumLine, StaysBelow, Reaches, Small, Roomy, Lowered, Descended}
 use Rattle.analysis.specs.Inner.{Ready}
+use Rattle.rows.proofs.Checks.{sound-row}
+use Rattle.analysis.proofs.Limits.{bound-in-range}
 use Rattle.analysis.proofs.Steps.{ready-lower}
 use Rattle.analysis.specs.Refinement.{askOf}
 
@@ -401,3 +403,41 @@ pub ray-stayed : (s : Sheet) (ask : Ask) → Regular s ask → (R drops same : L
     → OnRay s ask R drops (k + 1) left lower × (left ≤ steps) × (length lower ≡ length now)
 ray-stayed s ask regular R drops same k steps now on inside unchanged none lower left is-lower is-left =
     (rw (is-left, is-lower) (ray-skip s ask regular R drops k steps now on inside (rw unchanged at none)), omega arith, ap length is-lower)
+
+-- Bounds below bounds in range are at most a million.
+pub lowered-small : (words R : List ℕ) → Ready words R → (after : List ℕ) → Below (rowCount words) after R → (i : ℕ) → i < rowCount words
+    → getD after i 0 ≤ 1_000_000
+lowered-small words R ready after below i inside =
+    let sized = sound-row words (ready .rows) i inside in
+    omega (arith, below i inside, bound-in-range words R ready i inside .1)
+
+-- The further steps of a pass, made.
+pub lowered-down : (words : List ℕ) (ask : Ask) (R after drops : List ℕ) (further : ℕ) → Lowered words ask R after drops further
+    → (count : ℕ) → count ≡ rowCount words → (final : List ℕ) → final ≡ along count after drops further → Descended words ask R final drops
+lowered-down words ask R after drops further lowered count counted final made =
+    let last : final ≡ along (rowCount words) after drops further = made ∙ ap (λ (n : ℕ). along n after drops further) counted in
+    record {
+      held = rw last (lowered .ahead);
+      below = λ i h. rw last (le-trans (along-lower (rowCount words) after drops further i h) (lowered .below i h));
+      drops-small = lowered .drops-small;
+    }
+
+-- Going down not at all, and going down further.
+pub descended-none : (words : List ℕ) (ask : Ask) (R drops : List ℕ) → Held (sheetOf words) ask R → Small (rowCount words) drops
+    → Descended words ask R R drops
+descended-none words ask R drops held small = record { held = held; below = λ i h. le-refl (getD R i 0); drops-small = small }
+
+pub descended-more : (words : List ℕ) (ask : Ask) (R now drops lower left : List ℕ) → Descended words ask R now drops
+    → Descended words ask now lower left → Descended words ask R lower left
+descended-more words ask R now drops lower left before after =
+    record { held = after .held; below = λ i h. le-trans (after .below i h) (before .below i h); drops-small = after .drops-small }
+
+-- One bound a row, before and after.
+pub descended-length : (words : List ℕ) (ask : Ask) (R now drops : List ℕ) → Ready words R → Descended words ask R now drops → length now ≡ length R
+descended-length words ask R now drops ready descended = descended .held .one-each ∙ sheet-rows words ∙ sym (ready .one-each)
+
+-- What lies below bounds in range, and holds what bounds on the way hold, is in range.
+pub descended-ready : (words : List ℕ) (ask : Ask) → Regular (sheetOf words) ask → (R now drops : List ℕ) → Ready words R
+    → Descended words ask R now drops → Ready words now
+descended-ready words ask regular R now drops ready descended =
+    ready-lower words ask regular R now ready (descended .held) (λ i h. descended .below i (rw sheet-rows at h))

@@ -116,3 +116,9 @@ pub record Lowered (words : List ℕ) (ask : Ask) (before after drops : List ℕ
   pub room : (i : ℕ) → i < rowCount words → further * getD drops i 0 ≤ getD after i 0
   pub one-each : length after ≡ rowCount words
   pub ahead : Held (sheetOf words) ask (along (rowCount words) after drops further)
+
+-- What going down leaves: lower bounds that hold what bounds on the way hold, and drops as before in size.
+pub record Descended (words : List ℕ) (ask : Ask) (before after drops : List ℕ) : Type 0 where
+  pub held : Held (sheetOf words) ask after
+  pub below : Below (rowCount words) after before
+  pub drops-small : Small (rowCount words) drops

@@ -1,4 +1,5 @@
 // Passes over all rows, and the two engines that repeat them until one changes nothing.
+use crate::ray::hasten;
 use crate::response::answer_row;
 use rows::Found;
 use rows::deadline;
@@ -167,24 +168,30 @@ pub(crate) fn settle_rounds(
     }
 }
 
-// The at-once engine: sweep after sweep, until one changes nothing; the marks are those of the last.
+// The at-once engine: sweep after sweep, until one changes nothing; the marks are those of the last. Between sweeps bounds may be lowered
+// further, as far as turns allow it: the end is the same.
 pub(crate) fn settle_at_once(
     words: &[u32],
     bounds: &mut [u32],
+    drops: &mut [u32],
     processors: u32,
     method: u32,
     count: u32,
 ) -> u64
-    requires { ⌜ Ready (now words) (now bounds) × (count ≡ rowCount (now words)) × (1 ≤ processors) × Held (sheetOf (now words)) (askOf (now words) processors method) (now bounds) ⌝ }
+    requires { ⌜ Ready (now words) (now bounds) × (count ≡ rowCount (now words)) × (1 ≤ processors) × Held (sheetOf (now words)) (askOf (now words) processors method) (now bounds) × (length (now drops) ≡ count) × (processors ≤ 64) ⌝ }
     ensures seen { λ r. ⌜ r ≡ marks (sheetOf (now (words .entry))) (askOf (now (words .entry)) processors method) (atOnce (sheetOf (now (words .entry))) (askOf (now (words .entry)) processors method)) ⌝ }
     ensures settled { λ r. ⌜ now (bounds .exit) ≡ atOnce (sheetOf (now (words .entry))) (askOf (now (words .entry)) processors method) ⌝ }
 {
+    let mut sweeps = 0;
     loop {
+        copy_back(bounds, drops, count);
         let outcome = sweep_rows(words, bounds, processors, method, count);
         let moved = outcome.moved;
         if !moved {
             return outcome.seen;
         }
+        sweeps = (sweeps + 1) % 4;
+        hasten(words, bounds, drops, processors, method, count, sweeps);
     }
 }
 
@@ -214,10 +221,12 @@ pub(crate) fn run_at_once(
     method: u32,
     count: u32,
 ) -> u64
-    requires { ⌜ SoundRows (now words) × (count ≡ rowCount (now words)) × (1 ≤ processors) × (length (now bounds) ≡ count) ⌝ }
+    requires { ⌜ SoundRows (now words) × (count ≡ rowCount (now words)) × (1 ≤ processors) × (length (now bounds) ≡ count) × (processors ≤ 64) ⌝ }
     ensures seen { λ r. ⌜ r ≡ marks (sheetOf (now (words .entry))) (askOf (now (words .entry)) processors method) (atOnce (sheetOf (now (words .entry))) (askOf (now (words .entry)) processors method)) ⌝ }
     ensures settled { λ r. ⌜ now (bounds .exit) ≡ atOnce (sheetOf (now (words .entry))) (askOf (now (words .entry)) processors method) ⌝ }
 {
     fill_deadlines(words, bounds, count);
-    settle_at_once(words, bounds, processors, method, count)
+    let mut drops = [0u32; 64];
+    let end = count as usize;
+    settle_at_once(words, bounds, &mut drops[..end], processors, method, count)
 }

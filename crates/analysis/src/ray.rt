@@ -7,13 +7,15 @@ use numbers::lesser;
 ghost use mathlib.Core.Path.{_≡_};
 ghost use Prim.Native.Nat.{ℕ, _+_, _*_, _-_, _≤_, _<_};
 ghost use lib.ListN.{length, getD};
+ghost use Rattle.laws.specs.Fill.{Below};
 ghost use Rattle.model.specs.Answer.{methodOf};
 ghost use Rattle.model.specs.Interference.{share, carried};
+ghost use Rattle.model.specs.Ray.{along};
 ghost use Rattle.rows.specs.Words.{rowCount, sheetOf};
 ghost use Rattle.model.proofs.Refine.{Held};
 ghost use Rattle.analysis.specs.Inner.{Ready};
 ghost use Rattle.analysis.specs.Refinement.{askOf};
-ghost use Rattle.analysis.specs.Ray.{termAlong, capAlong, addedAlong, sumAlong, Lies, Lasts, FallsFrom, Lower, OnWay, Aimed, SmallLine, SumLine, StaysBelow, Reaches, Small, Roomy, Lowered};
+ghost use Rattle.analysis.specs.Ray.{termAlong, capAlong, addedAlong, sumAlong, Lies, Lasts, FallsFrom, Lower, OnWay, Aimed, SmallLine, SumLine, StaysBelow, Reaches, Small, Roomy, Lowered, Descended};
 
 // A line that begins at a value and falls by a slope a step, and for how many steps it holds.
 pub(crate) struct Line {
@@ -334,4 +336,98 @@ pub(crate) fn ray_pass(
         row += 1;
     }
     less(steps, 1)
+}
+
+// So many steps down at once, for every row.
+pub(crate) fn step_down(bounds: &mut [u32], drops: &[u32], count: u32, steps: u32)
+    requires { ⌜ (length (now bounds) ≡ count) × (length (now drops) ≡ count) × ((i : ℕ) → i < count → (steps * getD (now drops) i 0 ≤ getD (now bounds) i 0) × (getD (now bounds) i 0 ≤ 1_000_000)) ⌝ }
+    ensures { λ r. ⌜ now (bounds .exit) ≡ along count (now (bounds .entry)) (now (drops .entry)) steps ⌝ }
+{
+    let mut row = 0;
+    while row < count {
+        bounds[row as usize] = bounds[row as usize] - steps * drops[row as usize];
+        row += 1;
+    }
+}
+
+// A guess at a row's next drop: its last one, or none where that would lead below its cost.
+pub(crate) fn next_drop(before: u32, bound: u32, cost: u32) -> u32
+    ensures { λ r. ⌜ r ≤ bound ⌝ }
+{
+    let drop = less(before, bound);
+    if less(bound, cost) < drop { 0 } else { drop }
+}
+
+// Guesses every row's next drop, from the bounds before the last sweep, which are overwritten.
+pub(crate) fn fill_drops(words: &[u32], bounds: &[u32], drops: &mut [u32], count: u32)
+    requires { ⌜ Ready (now words) (now bounds) × (count ≡ rowCount (now words)) × (length (now drops) ≡ count) ⌝ }
+    ensures { λ r. ⌜ Small (rowCount (now (words .entry))) (now (drops .exit)) ⌝ }
+{
+    let mut row = 0;
+    while row < count {
+        let at = 3 * (row as usize);
+        drops[row as usize] = next_drop(drops[row as usize], bounds[row as usize], words[at]);
+        row += 1;
+    }
+}
+
+// One ray: a pass, and the further steps that it found to be allowed, whose number is returned.
+pub(crate) fn ray_once(
+    words: &[u32],
+    bounds: &mut [u32],
+    drops: &mut [u32],
+    processors: u32,
+    method: u32,
+    count: u32,
+) -> u32
+    requires { ⌜ Ready (now words) (now bounds) × (count ≡ rowCount (now words)) × (1 ≤ processors) × Held (sheetOf (now words)) (askOf (now words) processors method) (now bounds) × (processors ≤ 64) × Small (rowCount (now words)) (now drops) ⌝ }
+    ensures { λ r. ⌜ Descended (now (words .entry)) (askOf (now (words .entry)) processors method) (now (bounds .entry)) (now (bounds .exit)) (now (drops .exit)) ⌝ }
+{
+    let most = most_steps(words, bounds, drops, count);
+    let further = ray_pass(words, bounds, drops, processors, method, count, most);
+    step_down(bounds, drops, count, further);
+    further
+}
+
+// Rays until one goes further than a step, or every row may have lost its drop.
+pub(crate) fn descend(
+    words: &[u32],
+    bounds: &mut [u32],
+    drops: &mut [u32],
+    processors: u32,
+    method: u32,
+    count: u32,
+)
+    requires { ⌜ Ready (now words) (now bounds) × (count ≡ rowCount (now words)) × (1 ≤ processors) × Held (sheetOf (now words)) (askOf (now words) processors method) (now bounds) × (processors ≤ 64) × Small (rowCount (now words)) (now drops) ⌝ }
+    ensures { λ r. ⌜ Descended (now (words .entry)) (askOf (now (words .entry)) processors method) (now (bounds .entry)) (now (bounds .exit)) (now (drops .exit)) ⌝ }
+{
+    let mut tries = count;
+    while 0 < tries {
+        let further = ray_once(words, bounds, drops, processors, method, count);
+        if 0 < further {
+            return;
+        }
+        tries -= 1;
+    }
+}
+
+// Where the count of sweeps is 0 again, the last drops are followed down; else nothing is done.
+pub(crate) fn hasten(
+    words: &[u32],
+    bounds: &mut [u32],
+    drops: &mut [u32],
+    processors: u32,
+    method: u32,
+    count: u32,
+    sweeps: u32,
+)
+    requires { ⌜ Ready (now words) (now bounds) × (count ≡ rowCount (now words)) × (1 ≤ processors) × Held (sheetOf (now words)) (askOf (now words) processors method) (now bounds) × (processors ≤ 64) × (length (now drops) ≡ count) ⌝ }
+    ensures lowered { λ r. ⌜ Held (sheetOf (now (words .entry))) (askOf (now (words .entry)) processors method) (now (bounds .exit)) × Below (rowCount (now (words .entry))) (now (bounds .exit)) (now (bounds .entry)) ⌝ }
+    ensures kept { λ r. ⌜ length (now (drops .exit)) ≡ count ⌝ }
+{
+    if sweeps != 0 {
+        return;
+    }
+    fill_drops(words, bounds, drops, count);
+    descend(words, bounds, drops, processors, method, count);
 }

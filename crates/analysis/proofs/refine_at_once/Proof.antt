@@ -49,6 +49,7 @@ run-at-once-requires c κs =
       c .before .row-count .ensures,
       known .processors,
       length-take-le (c .before .row-count .result) (now (p .args .bounds)) (omega (arith, known .enough)),
+      known .few,
     )
 
 same-length : tie.Need-same-length

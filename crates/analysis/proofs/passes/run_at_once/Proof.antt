@@ -1,25 +1,39 @@
 -- `run_at_once` starts from the deadlines, which are ready and hold what bounds on the way hold.
-use borrow.Author.Needs.{needs}
+use mathlib.Core.Path.{sym}
 use denote.Ref.{now}
+use lib.ListN.{replicate}
+use lib.Seq.{length-take-le}
+use native.Mathlib.Omega.{arith}
 use Rattle.model.proofs.Refine.{deadlines-held}
 use Rattle.rows.specs.Words.{sheetOf}
 use Rattle.analysis.proofs.Steps.{ask-regular}
 use Rattle.analysis.proofs.Refinement.{deadlines-ready}
+use borrow.Author.Needs.{needs}
 use Rattle.analysis.proofs.passes.run_at_once.Statement.{statement}
 use Rattle.analysis.proofs.passes.run_at_once.Tie as tie
 
 fill-deadlines-requires : tie.Need-fill-deadlines-requires
 fill-deadlines-requires c κs = search needs
 
+array-borrow-prefix-drops : tie.Need-array-borrow-prefix-drops
+array-borrow-prefix-drops c = search needs
+
+slice-aggregate-settle-at-once : tie.Need-slice-aggregate-settle-at-once
+slice-aggregate-settle-at-once c =
+    let p = c .before .before .before .before .before .before .before .before in
+    sym (length-take-le (p .args .count) (replicate 64 0) (omega (arith, p .pre .1, p .pre .0 .at-most)))
+
 settle-at-once-requires : tie.Need-settle-at-once-requires
 settle-at-once-requires c κs =
-    let p = c .before .before .before .before .before .before .before in
+    let p = c .before .before .before .before .before .before .before .before in
     let words = now (p .args .words) in
-    rw (c .before .before .before .fill-deadlines .ensures) (
+    rw (c .before .before .before .before .fill-deadlines .ensures) (
       deadlines-ready words (p .pre .0),
       p .pre .1,
       p .pre .2,
       deadlines-held (sheetOf words) _ (ask-regular words (p .args .processors) (p .args .method)),
+      length-take-le (p .args .count) (replicate 64 0) (omega (arith, p .pre .1, p .pre .0 .at-most)),
+      p .pre .4,
     )
 
 same-length : tie.Need-same-length
@@ -30,4 +44,11 @@ returns c = search needs
 
 pub run-at-once-spec : {M : Type 1} → statement M
 run-at-once-spec =
-    tie.close (tie.spec fill-deadlines-requires settle-at-once-requires same-length returns)
+    tie.close
+    (tie.spec
+    fill-deadlines-requires
+    array-borrow-prefix-drops
+    slice-aggregate-settle-at-once
+    settle-at-once-requires
+    same-length
+    returns)

@@ -1,8 +1,10 @@
 -- `settle_at_once` keeps what bounds on the way hold; each sweep that moves lowers their sum, and one that does not has reached the end.
-use mathlib.Core.Path.{sym, _∙_, ap}
+use mathlib.Core.Path.{_≡_, sym, _∙_, ap}
 use denote.Ref.{now}
 use borrow.Author.Tests.{not-true, not-false}
-use Prim.Native.Nat.{ℕ}
+use Prim.Native.Nat.{ℕ, _≤_}
+use lib.ListN.{length}
+use native.Mathlib.Omega.{arith}
 use Rattle.model.specs.Refine.{sweep}
 use Rattle.model.proofs.Refine.{Held, sweep-pass}
 use Rattle.model.proofs.Engines.{sweep-settled}
@@ -10,60 +12,96 @@ use Rattle.rows.specs.Words.{sheetOf}
 use Rattle.rows.proofs.Words.{sheet-rows}
 use Rattle.analysis.specs.Refinement.{askOf}
 use Rattle.analysis.specs.Inner.{Ready, boundsSum}
-use Rattle.analysis.proofs.Steps.{ask-regular, pass-on, reached}
+use native.Mathlib.Nat.{lt-of-le-of-lt}
+use Rattle.analysis.proofs.Steps.{ask-regular, ready-lower, pass-on, reached, sum-lower}
 use Rattle.analysis.proofs.passes.settle_at_once.Statement.{statement}
 use Rattle.analysis.proofs.passes.settle_at_once.Tie as tie
 
 abbrev Inv-loop : tie.InvT-loop
-Inv-loop words bounds₀ processors method count bounds =
-    Ready words bounds × Held (sheetOf words) (askOf words processors method) bounds
+Inv-loop words bounds₀ drops₀ processors method count sweeps₀ bounds drops sweeps =
+    Ready words bounds × Held (sheetOf words) (askOf words processors method) bounds × (length drops ≡ count) × (sweeps ≤ 3)
 
 abbrev μ-loop : tie.MeasureT-loop
-μ-loop words bounds₀ processors method count bounds = boundsSum (sheetOf words) bounds
+μ-loop words bounds₀ drops₀ processors method count sweeps₀ bounds drops sweeps = boundsSum (sheetOf words) bounds
 
 loop-holds : tie.Need-loop-holds Inv-loop μ-loop
-loop-holds c = (c .before .before .pre .0, c .before .before .pre .3)
+loop-holds c = let p = c .before .before .before in (p .pre .0, p .pre .3, p .pre .4, omega arith)
+
+copy-back-requires : tie.Need-copy-back-requires Inv-loop μ-loop
+copy-back-requires c κs =
+    let p = c .before .before .before .before .before .before in
+    let q = c .before .before .loop in
+    (q .inv .0 .one-each ∙ sym (p .pre .1), q .inv .2)
 
 sweep-rows-requires : tie.Need-sweep-rows-requires Inv-loop μ-loop
 sweep-rows-requires c κs =
-    let p = c .before .before .before .before in
-    (c .before .loop .inv .0, p .pre .1, p .pre .2, c .before .loop .inv .1)
+    let p = c .before .before .before .before .before .before .before .before .before .before in
+    let q = c .before .before .before .before .before .before .loop in
+    (q .inv .0, p .pre .1, p .pre .2, q .inv .1)
 
-after : (c : tie.After-sweep-rows Inv-loop μ-loop) → let p = c .before .before .before .before .before in
+-- After the sweep the bounds are in range and hold what bounds on the way hold.
+swept : (c : tie.After-sweep-rows Inv-loop μ-loop) → let p = c .before .before .before .before .before .before .before .before .before .before .before in
     Ready (now (p .args .words)) (c .sweep-rows .last .1 .0)
     × Held (sheetOf (now (p .args .words))) (askOf (now (p .args .words)) (p .args .processors) (p .args .method)) (c .sweep-rows .last .1 .0)
-after c =
-    let p = c .before .before .before .before .before in
-    let inv = c .before .before .loop .inv in
+swept c =
+    let p = c .before .before .before .before .before .before .before .before .before .before .before in
+    let q = c .before .before .before .before .before .before .before .loop in
     let regular = ask-regular (now (p .args .words)) (p .args .processors) (p .args .method) in
     let words = now (p .args .words) in
-    pass-on _ _ regular _ (sweep-pass _ _ regular) _ _ (inv .0) (inv .1)
+    pass-on _ _ regular _ (sweep-pass _ _ regular) _ _ (q .inv .0) (q .inv .1)
     (c .sweep-rows .ensures .exact
-    ∙ ap (λ (n : ℕ). sweep (sheetOf words) (askOf words (p .args .processors) (p .args .method)) n (c .before .before .loop .bounds))
-    (sym (sheet-rows words)))
+    ∙ ap (λ (n : ℕ). sweep (sheetOf words) (askOf words (p .args .processors) (p .args .method)) n (q .bounds)) (sym (sheet-rows words)))
+
+-- The copy of the bounds is as long as they are.
+copied : (c : tie.After-copy-back Inv-loop μ-loop) → length (c .copy-back .last .1 .0) ≡ c .before .before .before .before .before .before .before .args .count
+copied c =
+    let p = c .before .before .before .before .before .before .before in
+    ap length (c .copy-back .ensures .exact) ∙ c .before .before .before .loop .inv .0 .one-each ∙ sym (p .pre .1)
 
 same-length : tie.Need-same-length Inv-loop μ-loop
 same-length c =
-    let p = c .before .before .before .before .before .before .before .before in
-    after (c .before .before .before) .0 .one-each ∙ sym (p .pre .0 .one-each)
+    let p = c .before .before .before .before .before .before .before .before .before .before .before .before .before .before in
+    swept (c .before .before .before) .0 .one-each ∙ sym (p .pre .0 .one-each)
+
+same-length-2 : tie.Need-same-length-2 Inv-loop μ-loop
+same-length-2 c = let p = c .before .before .before .before .before .before .before .before .before .before .before .before .before .before in copied (c .before .before .before .before .before .before .before) ∙ sym (p .pre .4)
 
 returns : tie.Need-returns Inv-loop μ-loop
 returns c =
-    let p = c .before .before .before .before .before .before .before .before in
-    let swept = c .before .before .before in
+    let p = c .before .before .before .before .before .before .before .before .before .before .before .before .before .before in
+    let pass = c .before .before .before in
     let words = now (p .args .words) in
     let ask = askOf words (p .args .processors) (p .args .method) in
-    let R = swept .before .before .loop .bounds in
-    reached _ _ _ _ _ _ _ _ (swept .sweep-rows .ensures) (not-true _ (c .if1 .taken))
+    let q = c .before .before .before .before .before .before .before .before .before .before .loop in
+    reached _ _ _ _ _ _ _ _ (pass .sweep-rows .ensures) (not-true _ (c .if1 .taken))
     (λ still.
-    sweep-settled (sheetOf words) ask (ask-regular words (p .args .processors) (p .args .method)) R (swept .before .before .loop .inv .1)
-    (ap (λ (n : ℕ). sweep (sheetOf words) ask n R) (sheet-rows words) ∙ still))
+    sweep-settled (sheetOf words) ask (ask-regular words (p .args .processors) (p .args .method)) (q .bounds) (q .inv .1)
+    (ap (λ (n : ℕ). sweep (sheetOf words) ask n (q .bounds)) (sheet-rows words) ∙ still))
+
+add-sweeps : tie.Need-add-sweeps Inv-loop μ-loop
+add-sweeps c = omega (arith, c .before .before .before .before .before .before .before .before .before .before .loop .inv .3)
+
+hasten-requires : tie.Need-hasten-requires Inv-loop μ-loop
+hasten-requires c κs =
+    let p = c .before .before .before .before .before .before .before .before .before .before .before .before .before .before .before .before in
+    let after = swept (c .before .before .before .before .before) in
+    (after .0, p .pre .1, p .pre .2, after .1, p .pre .5, copied (c .before .before .before .before .before .before .before .before .before))
 
 loop-less : tie.Need-loop-less Inv-loop μ-loop
-loop-less c = c .before .before .before .sweep-rows .ensures .lower (not-false _ (c .if1 .left))
+loop-less c =
+    let p = c .before .before .before .before .before .before .before .before .before .before .before .before .before .before .before .before .before .before .before .before .before in
+    let words = now (p .args .words) in
+    lt-of-le-of-lt (sum-lower words _ _ (c .before .before .before .before .hasten .ensures .0 .1)) (c .before .before .before .before .before .before .before .before .before .before .sweep-rows .ensures .lower (not-false _ (c .before .before .before .before .before .before .before .if1 .left)))
 
 loop-again : tie.Need-loop-again Inv-loop μ-loop
-loop-again c = after (c .before .before .before)
+loop-again c =
+    let p = c .before .before .before .before .before .before .before .before .before .before .before .before .before .before .before .before .before .before .before .before .before in
+    let hastened = c .before .before .before .before .hasten .ensures in (
+      ready-lower _ _ (ask-regular _ _ _) _ _ (swept (c .before .before .before .before .before .before .before .before .before .before) .0) (hastened .0 .0) (λ i h. hastened .0 .1 i (rw sheet-rows at h)),
+      hastened .0 .0,
+      hastened .1,
+      omega arith,
+    )
 
 pub settle-at-once-spec : {M : Type 1} → statement M
 settle-at-once-spec =
@@ -72,8 +110,12 @@ settle-at-once-spec =
     Inv-loop
     μ-loop
     loop-holds
+    copy-back-requires
     sweep-rows-requires
     same-length
+    same-length-2
     returns
+    add-sweeps
+    hasten-requires
     loop-less
     loop-again)
