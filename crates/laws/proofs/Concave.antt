@@ -2,8 +2,8 @@
 -- through its two ends. Sums, multiples and minima of concave functions are concave.
 use mathlib.Core.Path.{_≡_, sym, _∙_, ap}
 use mathlib.Core.Logic.{⊎-elim}
-use Prim.Native.Nat.{ℕ, zero, suc, _+_, _*_, _-_, _≤_, _<_, min}
-use native.Mathlib.Nat.{le-trans, le-step, lt-suc-self, add-le-add, mul-comm, mul-add, add-mul, mul-left-comm, mul-zero, mul-le-mul-left, le-of-mul-le-mul-left, min-le-left, min-le-right}
+use Prim.Native.Nat.{ℕ, zero, suc, _+_, _*_, _-_, _/_, _≤_, _<_, min}
+use native.Mathlib.Nat.{le-trans, le-step, lt-suc-self, add-le-add, mul-comm, mul-add, add-mul, mul-left-comm, mul-zero, mul-le-mul-left, le-of-mul-le-mul-left, min-le-left, min-le-right, lt-of-mul-lt-mul-right, lt-of-le-of-lt, div-lt-iff-lt-mul, mul-sub}
 use native.Mathlib.Omega.{arith}
 use Rattle.laws.specs.Sum.{total}
 use Rattle.laws.proofs.Order.{below-or-from}
@@ -106,3 +106,11 @@ none-skipped m cap e n a room start end d inside =
   where
     f : ℕ → ℕ
     f d = total (λ i. a i + min d (room i)) n
+
+-- Newton's rule for the largest such e falls: where e is too far, the steps that what is sure and the wide rooms pay for are fewer.
+pub newton-falls : (sure wide e m : ℕ) → sure + wide * e < m * e → (wide < m) × (sure / (m - wide) < e)
+newton-falls sure wide e m short =
+    let fewer : wide < m = lt-of-mul-lt-mul-right e (lt-of-le-of-lt (omega arith) short) in (
+      fewer,
+      div-lt-iff-lt-mul {k = m - wide} {x = sure} {y = e} (omega arith) .1 (omega (arith, mul-sub e m wide, mul-comm e m, mul-comm e wide)),
+    )
