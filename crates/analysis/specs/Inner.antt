@@ -103,3 +103,9 @@ pub record Onward (f : ℕ → ℕ) (x next : ℕ) : Type 0 where
   pub from : x ≤ next
   pub stands : next ≡ x → f x ≤ x
   pub passed : (z : ℕ) → x ≤ z → z < next → z < f z
+
+-- What a line below row i's work gives at X: cost / period of the time, within its share and the cap, in parts of 2 ^ 32. The slope is rounded
+-- down to such parts.
+unfoldable pub lineOf : Sheet → List ℕ → List ℕ → ℕ → ℕ → ℕ → ℕ
+lineOf s R taken x cap i =
+    min (s .cost i * 4_294_967_296 / s .period i * (x + getD R i 0 - s .cost i)) (4_294_967_296 * min (getD taken i 0) cap)

@@ -1,18 +1,20 @@
 // RTA by jumps: climbs as the plain method does, but past every X that the terms at hand exclude.
 use crate::interference::work_in_time;
+use numbers::less;
 use numbers::lesser;
 use rows::Found;
 use rows::cost;
 use rows::deadline;
 ghost use mathlib.Core.Path.{_≡_};
 ghost use Prim.Native.Nat.{_+_, _*_, _≤_, _<_, min};
+ghost use lib.Dec.{leb};
 ghost use lib.ListN.{length, getD};
 ghost use Rattle.laws.specs.Sum.{total};
 ghost use Rattle.laws.specs.Fill.{listed};
 ghost use Rattle.model.specs.Interference.{rtaRight};
 ghost use Rattle.model.specs.Answer.{rtaAnswer};
 ghost use Rattle.rows.specs.Words.{rowCount, sheetOf, foundOf};
-ghost use Rattle.analysis.specs.Inner.{Ready, Prepared, termOf, reach, roomOf, Rooms, Jumped, Onward};
+ghost use Rattle.analysis.specs.Inner.{Ready, Prepared, termOf, reach, roomOf, Rooms, Jumped, lineOf, Excluded, Onward};
 
 // What another row adds at X, and its room: how much more it adds for certain, one a step.
 pub(crate) struct Rise {
@@ -139,7 +141,94 @@ pub(crate) fn jump(room: &[u32], count: u32, gain: u32, processors: u32, most: u
     }
 }
 
-// The next X worth looking at: X itself if it solves the equation, else the first that is not excluded.
+// What the line below a row's work gives at X: its cost / period of the time, within its share and the cap, in parts of 2^32.
+pub(crate) fn line(
+    words: &[u32],
+    bounds: &[u32],
+    taken: &[u32],
+    other: u32,
+    x: u32,
+    cap: u32,
+) -> u64
+    requires { ⌜ Ready (now words) (now bounds) × (other < rowCount (now words)) × (length (now taken) ≡ rowCount (now words)) × (x ≤ 1_000_000) ⌝ }
+    ensures { λ r. ⌜ r ≡ lineOf (sheetOf (now (words .entry))) (now (bounds .entry)) (now (taken .entry)) x cap other ⌝ }
+{
+    let most = 4_294_967_296 * (lesser(taken[other as usize], cap) as u64);
+    let at = 3 * (other as usize);
+    let second = at + 2;
+    let own = words[at];
+    let slope = (own as u64) * 4_294_967_296 / (words[second] as u64);
+    let level = slope * ((x + bounds[other as usize] - own) as u64);
+    if level < most { level } else { most }
+}
+
+// What the lines of all other rows give at X.
+pub(crate) fn line_sum(
+    words: &[u32],
+    bounds: &[u32],
+    taken: &[u32],
+    count: u32,
+    x: u32,
+    cap: u32,
+) -> u64
+    requires { ⌜ Ready (now words) (now bounds) × (count ≡ rowCount (now words)) × (length (now taken) ≡ count) × (x ≤ 1_000_000) × (cap ≤ 1_000_000) ⌝ }
+    ensures { λ r. ⌜ r ≡ total (lineOf (sheetOf (now (words .entry))) (now (bounds .entry)) (now (taken .entry)) x cap) count ⌝ }
+{
+    let mut sum = 0;
+    let mut other = 0;
+    while other < count {
+        sum += line(words, bounds, taken, other, x, cap);
+        other += 1;
+    }
+    sum
+}
+
+// Whether the lines show that X does not solve the equation.
+pub(crate) fn line_excludes(
+    words: &[u32],
+    bounds: &[u32],
+    taken: &[u32],
+    count: u32,
+    processors: u32,
+    x: u32,
+    cap: u32,
+) -> bool
+    requires { ⌜ Ready (now words) (now bounds) × (count ≡ rowCount (now words)) × (length (now taken) ≡ count) × (processors ≤ 64) × (x ≤ 1_000_000) × (cap ≤ 1_000_000) ⌝ }
+    ensures { λ r. ⌜ r ≡ leb (4_294_967_296 * (processors * cap)) (total (lineOf (sheetOf (now (words .entry))) (now (bounds .entry)) (now (taken .entry)) x cap) count) ⌝ }
+{
+    4_294_967_296 * ((processors * cap) as u64) <= line_sum(words, bounds, taken, count, x, cap)
+}
+
+// A jump over many periods: the farthest, halving from the most down to 64, at whose two ends the lines exclude; else the near one.
+pub(crate) fn far_jump(
+    words: &[u32],
+    bounds: &[u32],
+    taken: &[u32],
+    count: u32,
+    processors: u32,
+    x: u32,
+    cap: u32,
+    near: u32,
+    most: u32,
+) -> u32
+    requires { ⌜ Ready (now words) (now bounds) × (count ≡ rowCount (now words)) × (length (now taken) ≡ count) × (processors ≤ 64) × (x + most ≤ 1_000_000) × (cap + most ≤ 1_000_000) × (near ≤ most) × Excluded (sheetOf (now words)) (now bounds) (now taken) count processors x cap near ⌝ }
+    ensures { λ r. ⌜ (r ≤ most) × Excluded (sheetOf (now (words .entry))) (now (bounds .entry)) (now (taken .entry)) count processors x cap r ⌝ }
+{
+    if !line_excludes(words, bounds, taken, count, processors, x, cap) {
+        return near;
+    }
+    let least = near + less(64, near);
+    let mut far = most;
+    while least < far {
+        if line_excludes(words, bounds, taken, count, processors, x + far, cap + far) {
+            return far;
+        }
+        far = far / 2;
+    }
+    near
+}
+
+// The next X worth looking at: X itself if it solves the equation, else the first that is not excluded, by a far jump where that is asked for.
 pub(crate) fn onward(
     words: &[u32],
     bounds: &[u32],
@@ -148,6 +237,7 @@ pub(crate) fn onward(
     count: u32,
     processors: u32,
     x: u32,
+    try_far: bool,
     room: &mut [u32],
 ) -> u32
     requires { ⌜ Prepared (now words) (now bounds) (now taken) row count processors × ((sheetOf (now words)) .cost row ≤ x) × (x ≤ (sheetOf (now words)) .deadline row) × (length (now room) ≡ count) ⌝ }
@@ -161,10 +251,16 @@ pub(crate) fn onward(
     }
     let most = deadline(words, row) - x;
     let gain = sum - processors * cap;
-    x + jump(room, count, gain, processors, most) + 1
+    let near = jump(room, count, gain, processors, most);
+    if !try_far {
+        return x + near + 1;
+    }
+    let far = far_jump(words, bounds, taken, count, processors, x, cap, near, most);
+    x + far + 1
 }
 
-// RTA: climbs from the cost past what is excluded to the least X that is its own right side, and gives up above the deadline.
+// RTA: climbs from the cost past what is excluded to the least X that is its own right side, and gives up above the deadline. Every 16th step
+// tries to jump far.
 pub(crate) fn rta_quickly(
     words: &[u32],
     bounds: &[u32],
@@ -179,8 +275,21 @@ pub(crate) fn rta_quickly(
 {
     let top = deadline(words, row);
     let mut x = cost(words, row);
+    let mut step = 0u32;
     loop {
-        let next = onward(words, bounds, taken, row, count, processors, x, room);
+        step += 1;
+        let try_far = step % 16 == 0;
+        let next = onward(
+            words,
+            bounds,
+            taken,
+            row,
+            count,
+            processors,
+            x,
+            try_far,
+            room,
+        );
         if next == x {
             return Found::At(x);
         }

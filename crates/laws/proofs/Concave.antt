@@ -68,6 +68,12 @@ concave-total f zero each = concave-same 0
 concave-total f (suc n) each =
     concave-add (λ d. total (λ i. f i d) n) (f n) (concave-total f n (λ i h. each i (le-step h))) (each n (lt-suc-self n))
 
+-- A sum of multiples is the multiple of the sum.
+pub total-times : (k : ℕ) (f : ℕ → ℕ) (n : ℕ) → total (λ i. k * f i) n ≡ k * total f n
+unfolding total
+total-times k f zero = sym (mul-zero k)
+total-times k f (suc n) = omega (arith, total-times k f n, mul-add k (total f n) (f n))
+
 -- A line is its own chord.
 along : (p q d g : ℕ) → (d + g) * (p + q * d) ≡ g * p + d * (p + q * (d + g))
 along p q d g =

@@ -1,8 +1,10 @@
--- `onward` stays where the terms do not fill the processors' time; where they do, the jump excludes all that it passes.
-use mathlib.Core.Path.{sym}
-use Prim.Native.Nat.{_+_, _*_, _-_, _≤_}
+-- `onward` stays where the terms do not fill the processors' time; where they do, the jump excludes all that it passes, the far one too.
+use Prim.Native.Nat.{ℕ, _+_, _*_, _-_, _≤_}
 use denote.Ref.{now}
+use Rattle.model.specs.Interference.{rtaRight}
+use Rattle.rows.specs.Words.{sheetOf}
 use Rattle.rows.proofs.Checks.{sound-row}
+use Rattle.analysis.specs.Inner.{Excluded, Onward}
 use Rattle.analysis.proofs.Shares.{prepared-length, terms-sum-small}
 use Rattle.analysis.proofs.Exclusion.{rooms-filled, fills, few-processors, jump-excludes, right-stands, past-excluded, stays-onward}
 use native.Mathlib.Omega.{arith}
@@ -69,6 +71,13 @@ sum-small c =
     let small : p .args .x - own + 1 ≤ 1_000_000 = omega (arith, p .pre .2, c .before .before .before .before .before .cost .ensures) in
     rw (c .before .before .before .fill-rooms .ensures .0) (terms-sum-small _ _ _ _ _ _ (p .pre .0) (p .args .x) (p .args .x - own + 1) small)
 
+-- And so there are at most as many processors as rows.
+few : (c : tie.Else1) → c .before .before .before .before .before .before .before .before .before .before .args .processors ≤ 64
+few c =
+    let p = c .before .before .before .before .before .before .before .before .before .before in
+    few-processors _ _ _ _ _ _ (p .pre .0) (p .args .x) (p .args .x - c .before .before .before .before .before .cost .result + 1) (omega arith)
+    (rw (← c .before .before .before .fill-rooms .ensures .0) (full c))
+
 mul-gain : tie.Need-mul-gain
 mul-gain c = omega (arith, full (c .before), sum-small (c .before))
 
@@ -82,32 +91,76 @@ jump-requires c κs =
     let sum = c .before .before .before .before .before .fill-rooms in (
       rooms-filled _ _ _ _ _ _ (p .pre .0) _ (p .args .x) _ (sum .ensures .1),
       omega (arith, sum-small (c .before .before)),
-      few-processors _ _ _ _ _ _ (p .pre .0) (p .args .x) (p .args .x - c .before .before .before .before .before .before .before .cost .result + 1) (omega arith) (rw (← sum .ensures .0) (full (c .before .before))),
+      few (c .before .before),
       omega (arith, c .before .deadline .ensures),
     )
+
+-- The jump excludes all that it passes.
+excluded : (c : tie.After-jump) → let p = c .before .before .before .before .before .before .before .before .before .before .before .before .before in
+    Excluded (sheetOf (now (p .args .words))) (now (p .args .bounds)) (now (p .args .taken)) (p .args .count) (p .args .processors) (p .args .x)
+    (p .args .x - c .before .before .before .before .before .before .before .before .cost .result + 1) (c .jump .result)
+excluded c =
+    let p = c .before .before .before .before .before .before .before .before .before .before .before .before .before in
+    let sum = c .before .before .before .before .before .before .fill-rooms in
+    jump-excludes _ _ _ _ _ _ (p .pre .0) _ (p .args .x) (p .args .x - c .before .before .before .before .before .before .before .before .cost .result + 1) _ _ (c .jump .result) (sum .ensures .1)
+    (rw (← sum .ensures .0) (full (c .before .before .before))) (rw (← sum .ensures .0)) (c .jump .ensures)
+
+-- What is no further than the deadline is within a million, and past it is onward if all to it is excluded.
+past-small : (c : tie.After-jump) (far : ℕ) → far ≤ c .before .before .deadline .result - c .before .before .before .before .before .before .before .before .before .before .before .before .before .args .x → c .before .before .before .before .before .before .before .before .before .before .before .before .before .args .x + far ≤ 1_000_000
+past-small c far within =
+    let p = c .before .before .before .before .before .before .before .before .before .before .before .before .before in
+    let sized = sound-row (now (p .args .words)) (p .pre .0 .ready .rows) (p .args .row) (p .pre .0 .inside) in
+    omega (arith, p .pre .2, c .before .before .deadline .ensures)
+
+past : (c : tie.After-jump) (far : ℕ) → let p = c .before .before .before .before .before .before .before .before .before .before .before .before .before in far ≤ c .before .before .deadline .result - p .args .x
+    → Excluded (sheetOf (now (p .args .words))) (now (p .args .bounds)) (now (p .args .taken)) (p .args .count) (p .args .processors) (p .args .x)
+    (p .args .x - c .before .before .before .before .before .before .before .before .cost .result + 1) far
+    → Onward (rtaRight (sheetOf (now (p .args .words))) (p .args .processors) (p .args .row) (now (p .args .bounds))) (p .args .x) (p .args .x + far + 1)
+past c far within none-there =
+    let p = c .before .before .before .before .before .before .before .before .before .before .before .before .before in
+    let own = c .before .before .before .before .before .before .before .before .cost in
+    past-excluded _ _ _ _ _ _ (p .pre .0) (own .result) (p .args .x) far (own .ensures) (omega (arith, own .ensures, p .pre .1))
+    (omega (arith, within, c .before .before .deadline .ensures, p .pre .2)) none-there
 
 add-result : tie.Need-add-result
 add-result c = search needs
 
 add-result-2 : tie.Need-add-result-2
-add-result-2 c =
-    let p = c .before .before .before .before .before .before .before .before .before .before .before .before .before in
-    let sized = sound-row (now (p .args .words)) (p .pre .0 .ready .rows) (p .args .row) (p .pre .0 .inside) in
-    omega (arith, c .jump .ensures .within, c .before .before .deadline .ensures)
+add-result-2 c = omega (arith, past-small (c .before) (c .before .jump .result) (c .before .jump .ensures .within))
 
 same-length-2 : tie.Need-same-length-2
 same-length-2 c = search needs
 
 returns-2 : tie.Need-returns-2
-returns-2 c =
-    let p = c .before .before .before .before .before .before .before .before .before .before .before .before .before in
-    let own = c .before .before .before .before .before .before .before .before .cost in
-    let sum = c .before .before .before .before .before .before .fill-rooms in
-    let cap = p .args .x - own .result + 1 in
-    past-excluded _ _ _ _ _ _ (p .pre .0) (own .result) (p .args .x) (c .jump .result) (own .ensures) (omega (arith, own .ensures, p .pre .1))
-    (omega (arith, c .jump .ensures .within, c .before .before .deadline .ensures, p .pre .2))
-    (jump-excludes _ _ _ _ _ _ (p .pre .0) _ (p .args .x) cap _ _ (c .jump .result) (sum .ensures .1)
-    (rw (← sum .ensures .0) (full (c .before .before .before))) (rw (← sum .ensures .0)) (c .jump .ensures))
+returns-2 c = past (c .before) (c .before .jump .result) (c .before .jump .ensures .within) (excluded (c .before))
+
+far-jump-requires : tie.Need-far-jump-requires
+far-jump-requires c κs =
+    let p = c .before .before .before .before .before .before .before .before .before .before .before .before .before .before in
+    let most = c .before .before .before .deadline .result - p .args .x in
+    let small = past-small (c .before) most (omega arith) in
+    let sized = sound-row (now (p .args .words)) (p .pre .0 .ready .rows) (p .args .row) (p .pre .0 .inside) in (
+      p .pre .0 .ready,
+      p .pre .0 .counted,
+      prepared-length _ _ _ _ _ _ (p .pre .0),
+      few (c .before .before .before .before),
+      small,
+      omega (arith, small, c .before .before .before .before .before .before .before .before .before .cost .ensures, p .pre .1),
+      c .before .jump .ensures .within,
+      excluded (c .before),
+    )
+
+add-result-3 : tie.Need-add-result-3
+add-result-3 c = search needs
+
+add-result-4 : tie.Need-add-result-4
+add-result-4 c = omega (arith, past-small (c .before .before) (c .far-jump .result) (c .far-jump .ensures .0))
+
+same-length-3 : tie.Need-same-length-3
+same-length-3 c = search needs
+
+returns-3 : tie.Need-returns-3
+returns-3 c = past (c .before .before) (c .far-jump .result) (c .far-jump .ensures .0) (c .far-jump .ensures .1)
 
 pub onward-spec : {M : Type 1} → statement M
 onward-spec =
@@ -128,4 +181,9 @@ onward-spec =
     add-result
     add-result-2
     same-length-2
-    returns-2)
+    returns-2
+    far-jump-requires
+    add-result-3
+    add-result-4
+    same-length-3
+    returns-3)

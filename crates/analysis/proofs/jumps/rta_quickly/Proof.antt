@@ -17,11 +17,11 @@ use Rattle.analysis.proofs.jumps.rta_quickly.Statement.{statement}
 use Rattle.analysis.proofs.jumps.rta_quickly.Tie as tie
 
 abbrev Inv-loop : tie.InvT-loop
-Inv-loop words bounds taken row count processors room₀ top x₀ room x =
-    Climbed (rtaRight (sheetOf words) processors row bounds) ((sheetOf words) .cost row) x × (x ≤ (sheetOf words) .deadline row) × (length room ≡ count)
+Inv-loop words bounds taken row count processors room₀ top x₀ step₀ room x step =
+    Climbed (rtaRight (sheetOf words) processors row bounds) ((sheetOf words) .cost row) x × (x ≤ (sheetOf words) .deadline row) × (length room ≡ count) × (step ≤ x)
 
 abbrev μ-loop : tie.MeasureT-loop
-μ-loop words bounds taken row count processors room₀ top x₀ room x = (sheetOf words) .deadline row - x
+μ-loop words bounds taken row count processors room₀ top x₀ step₀ room x step = (sheetOf words) .deadline row - x
 
 deadline-requires : tie.Need-deadline-requires Inv-loop μ-loop
 deadline-requires c κs = search needs
@@ -36,7 +36,14 @@ loop-holds c =
       climbed-first _ _ (rtaRight-from-cost _ _ _ _ _),
       sound-row (now (p .args .words)) (p .pre .0 .ready .rows) (p .args .row) (p .pre .0 .inside) .by-deadline,
       p .pre .1,
+      omega arith,
     )
+
+add-step : tie.Need-add-step Inv-loop μ-loop
+add-step c =
+    let p = c .before .before .before .before .before .before .before in
+    let sized = sound-row (now (p .args .words)) (p .pre .0 .ready .rows) (p .args .row) (p .pre .0 .inside) in
+    omega (arith, c .loop .inv .1, c .loop .inv .3)
 
 onward-requires : tie.Need-onward-requires Inv-loop μ-loop
 onward-requires c κs =
@@ -76,7 +83,8 @@ loop-again : tie.Need-loop-again Inv-loop μ-loop
 loop-again c = (
   climbed (c .before),
   omega (arith, c .if2 .left, c .before .before .before .before .before .before .before .before .deadline .ensures),
-  c .before .before .before .before .onward .kept .1 .1 .1 .1 .1 .1 .1 .0 ∙ c .before .before .before .before .before .before .loop .inv .2,
+  c .before .before .before .before .onward .kept .1 .1 .1 .1 .1 .1 .1 .1 .0 ∙ c .before .before .before .before .before .before .loop .inv .2,
+  omega (arith, further (c .before), c .before .before .before .before .before .before .loop .inv .3),
 )
 
 pub rta-quickly-spec : {M : Type 1} → statement M
@@ -88,6 +96,7 @@ rta-quickly-spec =
     deadline-requires
     cost-requires
     loop-holds
+    add-step
     onward-requires
     same-length
     returns

@@ -9,7 +9,7 @@ use Rattle.model.specs.Interference.{work, workOf}
 use Rattle.rows.specs.Words.{sheetOf}
 use Rattle.analysis.specs.Inner.{termOf, roomOf}
 use Rattle.analysis.proofs.Limits.{periods-within}
-use Rattle.analysis.proofs.Sizes.{Sizes, sizes}
+use Rattle.analysis.proofs.Sizes.{sizes}
 use Rattle.analysis.proofs.Exclusion.{reach-above, small-share}
 use borrow.Author.Needs.{needs}
 use Rattle.analysis.proofs.jumps.term_and_room.Statement.{statement}
@@ -26,10 +26,6 @@ lesser-requires c κs = search needs
 
 sub-t22 : tie.Need-sub-t22
 sub-t22 c = search needs
-
-sizes-at : (s : tie.Start) → let words = now (s .args .words) in
-    Sizes (getD words (3 * s .args .other) 0) (getD words (3 * s .args .other + 2) 0) (getD (now (s .args .bounds)) (s .args .other) 0)
-sizes-at s = sizes (now (s .args .words)) (now (s .args .bounds)) (s .pre .0) (s .args .other) (s .pre .1)
 
 returns : tie.Need-returns
 returns c =
@@ -65,23 +61,23 @@ shared-slice-read-time c = search needs
 add-time : tie.Need-add-time
 add-time c =
     let p = c .before .before .before .before .before .before .before .before .before in
-    let known = sizes-at p in
+    let known = sizes _ _ (p .pre .0) (p .args .other) (p .pre .1) in
     omega (arith, p .pre .4)
 
 sub-time : tie.Need-sub-time
-sub-time c = let known = sizes-at (c .before .before .before .before .before .before .before .before .before) in omega arith
+sub-time c = let p = c .before .before .before .before .before .before .before .before .before in let known = sizes _ _ (p .pre .0) (p .args .other) (p .pre .1) in omega arith
 
 work-in-time-requires : tie.Need-work-in-time-requires
 work-in-time-requires c κs =
     let p = c .before .before .before .before .before .before .before .before .before in
-    let known = sizes-at p in
+    let known = sizes _ _ (p .pre .0) (p .args .other) (p .pre .1) in
     omega (arith, p .pre .4)
 
 lesser-requires-2 : tie.Need-lesser-requires-2
 lesser-requires-2 c κs = search needs
 
 div-whole : tie.Need-div-whole
-div-whole c = let known = sizes-at (c .before .before .before .before .before .before .before .before .before .before .before) in omega arith
+div-whole c = let p = c .before .before .before .before .before .before .before .before .before .before .before in let known = sizes _ _ (p .pre .0) (p .args .other) (p .pre .1) in omega arith
 
 -- The costs of the whole periods are within two millions.
 whole-small : (s : tie.Start) → let words = now (s .args .words) in
@@ -90,7 +86,7 @@ whole-small : (s : tie.Start) → let words = now (s .args .words) in
 whole-small s =
     let words = now (s .args .words) in
     let own = getD words (3 * s .args .other) 0 in
-    let known = sizes-at s in
+    let known = sizes _ _ (s .pre .0) (s .args .other) (s .pre .1) in
     let time = s .args .x + getD (now (s .args .bounds)) (s .args .other) 0 - own in
     omega (arith, s .pre .4, periods-within time (getD words (3 * s .args .other + 2) 0) own (known .by-period))
 
@@ -100,7 +96,7 @@ mul-whole c = omega (arith, whole-small (c .before .before .before .before .befo
 certain-requires : tie.Need-certain-requires
 certain-requires c κs =
     let p = c .before .before .before .before .before .before .before .before .before .before .before in
-    let known = sizes-at p in
+    let known = sizes _ _ (p .pre .0) (p .args .other) (p .pre .1) in
     (whole-small p, omega arith)
 
 sub-room : tie.Need-sub-room

@@ -10,7 +10,7 @@ use Rattle.rows.specs.Words.{sheetOf}
 use Rattle.rows.proofs.Checks.{sound-row}
 use Rattle.analysis.specs.Inner.{termOf}
 use Rattle.analysis.proofs.Limits.{bound-in-range, work-positive}
-use Rattle.analysis.proofs.Sizes.{Sizes, sizes}
+use Rattle.analysis.proofs.Sizes.{sizes}
 use native.Mathlib.Omega.{arith}
 use Rattle.analysis.proofs.response.term.Statement.{statement}
 use Rattle.analysis.proofs.response.term.Tie as tie
@@ -23,10 +23,6 @@ shared-slice-read-lesser c = search needs
 
 lesser-requires : tie.Need-lesser-requires
 lesser-requires c κs = search needs
-
-sizes-at : (s : tie.Start) → let words = now (s .args .words) in
-    Sizes (getD words (3 * s .args .other) 0) (getD words (3 * s .args .other + 2) 0) (getD (now (s .args .bounds)) (s .args .other) 0)
-sizes-at s = sizes (now (s .args .words)) (now (s .args .bounds)) (s .pre .0) (s .args .other) (s .pre .1)
 
 returns : tie.Need-returns
 unfolding termOf workOf
@@ -52,7 +48,7 @@ shared-slice-read-time : tie.Need-shared-slice-read-time
 shared-slice-read-time c = search needs
 
 add-time : tie.Need-add-time
-add-time c = let known = sizes-at (c .before .before .before .before .before .before .before) in omega (arith, c .before .before .before .before .before .before .before .pre .4)
+add-time c = let p = c .before .before .before .before .before .before .before in let known = sizes _ _ (p .pre .0) (p .args .other) (p .pre .1) in omega (arith, c .before .before .before .before .before .before .before .pre .4)
 
 mul-time-2 : tie.Need-mul-time-2
 mul-time-2 c = search needs
@@ -61,7 +57,7 @@ shared-slice-read-time-2 : tie.Need-shared-slice-read-time-2
 shared-slice-read-time-2 c = search needs
 
 sub-time : tie.Need-sub-time
-sub-time c = let known = sizes-at (c .before .before .before .before .before .before .before .before) in omega arith
+sub-time c = let p = c .before .before .before .before .before .before .before .before in let known = sizes _ _ (p .pre .0) (p .args .other) (p .pre .1) in omega arith
 
 mul-work-in-time : tie.Need-mul-work-in-time
 mul-work-in-time c = search needs
@@ -78,7 +74,7 @@ shared-slice-read-work-in-time-2 c = search needs
 work-in-time-requires : tie.Need-work-in-time-requires
 work-in-time-requires c κs =
     let p = c .before .before .before .before .before .before .before .before .before .before in
-    let known = sizes-at p in
+    let known = sizes _ _ (p .pre .0) (p .args .other) (p .pre .1) in
     omega (arith, p .pre .4)
 
 lesser-requires-2 : tie.Need-lesser-requires-2
