@@ -1,15 +1,15 @@
 -- Why a jump along the lines skips no solution: they lie below the terms, and what they add up to is concave, so it is not below a line that it
 -- is not below at both ends.
-use mathlib.Core.Path.{_≡_, ap}
+use mathlib.Core.Path.{_≡_}
 use mathlib.Core.List.{List}
 use Prim.Native.Nat.{ℕ, _+_, _*_, _-_, _/_, _≤_, _<_, min}
-use native.Mathlib.Nat.{le-trans, add-zero, div-mul-le-self, div-le-of-le-mul, mul-le-mul-right, mul-add, mul-assoc}
+use native.Mathlib.Nat.{add-zero, div-mul-le-self, div-le-of-le-mul, mul-le-mul-right, mul-add, mul-assoc}
 use native.Mathlib.Omega.{arith}
 use lib.ListN.{getD}
 use Rattle.laws.specs.Sum.{total}
 use Rattle.laws.proofs.Sum.{total-mono, total-same}
 use Rattle.laws.proofs.Concave.{Concave, concave-same, concave-self, concave-add, concave-times, concave-min, concave-total, total-times, above-line}
-use Rattle.model.specs.Interference.{carried, work, workOf}
+use Rattle.model.specs.Interference.{work, workOf}
 use Rattle.model.proofs.Rise.{slope-below}
 use Rattle.rows.specs.Words.{rowCount, sheetOf}
 use Rattle.rows.proofs.Checks.{sound-row}

@@ -1,8 +1,8 @@
 -- Why a jump skips no solution: each term rises one a step to its room, so the sum is not below a concave function of the steps.
-use mathlib.Core.Path.{_≡_, refl, sym, _∙_, ap}
+use mathlib.Core.Path.{_≡_, refl, _∙_, ap}
 use mathlib.Core.List.{List}
 use Prim.Native.Nat.{ℕ, _+_, _*_, _-_, _/_, _≤_, _<_, min}
-use native.Mathlib.Nat.{le-trans, le-min, le-div-iff-mul-le, div-lt-iff-lt-mul, mul-comm, le-of-mul-le-mul-right}
+use native.Mathlib.Nat.{le-trans, le-min, le-div-iff-mul-le, mul-comm, le-of-mul-le-mul-right}
 use native.Mathlib.Decide.{ℕ-discrete}
 use native.Mathlib.Omega.{arith}
 use borrow.Author.Tests.{eq-eqb, ne-eqb}
@@ -19,7 +19,7 @@ use Rattle.rows.specs.Words.{rowCount, sheetOf}
 use Rattle.rows.proofs.Checks.{sound-row}
 use Rattle.analysis.specs.Inner.{Ready, Prepared, termOf, reach, roomOf, Rooms, Jumped, Excluded, Onward}
 use Rattle.analysis.proofs.Limits.{bound-in-range, work-positive, term-within-cap}
-use Rattle.analysis.proofs.Shares.{prepared-rows, prepared-length, prepared-small, right-from-terms}
+use Rattle.analysis.proofs.Shares.{prepared-small, right-from-terms}
 
 -- What holds in both cases holds of what a term comes to for certain.
 pub by-period : (P : ℕ → Type 0) (c t whole share : ℕ) → (c ≡ t → P share) → P (min (whole + c) share) → P (reach c t whole share)
@@ -27,8 +27,8 @@ unfolding reach
 by-period P c t whole share full other = decided (ℕ-discrete c t)
   where
     decided : Dec (c ≡ t) → P (reach c t whole share)
-    decided (yes same) = rw (pick-yes _ share (min (whole + c) share) (eq-eqb c t same)) (full same)
-    decided (no differ) = rw (pick-no _ share (min (whole + c) share) (ne-eqb c t differ)) other
+    decided (yes same) = rw (pick-yes _ share _ (eq-eqb c t same)) (full same)
+    decided (no differ) = rw (pick-no _ share _ (ne-eqb c t differ)) other
 
 -- It is within the share, and not below what is done.
 pub reach-within : (c t whole share : ℕ) → reach c t whole share ≤ share

@@ -83,7 +83,7 @@ unfoldable pub roomOf : Sheet → List ℕ → List ℕ → ℕ → ℕ → ℕ 
 roomOf s R taken x cap i =
     reach (s .cost i) (s .period i) ((x + getD R i 0 - s .cost i) / s .period i * s .cost i) (getD taken i 0) - termOf s R taken x cap i
 
--- A jump that gains as fast as it must: so far the rooms, and what is gained already, rise as m numbers do.
+-- A jump on which the sum keeps up: what is gained already, and what the rooms let through in so many steps, is no less than m a step.
 pub record Jumped (room : List ℕ) (count gain m most far : ℕ) : Type 0 where
   pub within : far ≤ most
   pub gains : m * far ≤ gain + total (λ i. min far (getD room i 0)) count

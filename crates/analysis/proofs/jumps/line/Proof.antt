@@ -1,5 +1,5 @@
 -- `line` is the lesser of slope times time and of share and cap, all in 64 bits: the slope is at most one whole, and the time two millions.
-use Prim.Native.Nat.{_+_, _*_, _-_, _/_, _≤_}
+use Prim.Native.Nat.{_+_, _*_, _-_, _≤_}
 use native.Mathlib.Nat.{mul-le-mul}
 use lib.ListN.{getD}
 use denote.Ref.{now}

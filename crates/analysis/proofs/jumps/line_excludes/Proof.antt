@@ -1,6 +1,6 @@
 -- `line_excludes` compares in 64 bits what the definition compares.
 use mathlib.Core.Path.{ap}
-use Prim.Native.Nat.{ℕ, _*_, _≤_}
+use Prim.Native.Nat.{_*_, _≤_}
 use native.Mathlib.Nat.{mul-le-mul}
 use lib.Dec.{leb}
 use native.Mathlib.Omega.{arith}

@@ -1,7 +1,7 @@
 -- `term` is the least of work, share and cap: a row that is ready has work of at least 1, so a least of 0 or 1 needs no more looking.
 use borrow.Author.Needs.{needs}
 use mathlib.Core.Path.{_∙_, ap₂}
-use Prim.Native.Nat.{_+_, _*_, min}
+use Prim.Native.Nat.{min}
 use lib.ListN.{getD}
 use denote.Ref.{now}
 use Rattle.model.specs.Sheet.{triples}
