@@ -1,5 +1,9 @@
 pub mod Limits
+pub mod Sizes
 pub mod Shares
+pub mod Exclusion
+pub mod Chord
+pub mod ByMethod
 pub mod Question
 pub mod Steps
 pub mod Ways

@@ -2,8 +2,10 @@
 use mathlib.Core.Path.{_≡_}
 use mathlib.Core.Bool.{Bool, true, false}
 use mathlib.Core.List.{List}
-use Prim.Native.Nat.{ℕ, _+_, _-_, _≤_, _<_, min}
+use Prim.Native.Nat.{ℕ, _+_, _*_, _-_, _/_, _≤_, _<_, min}
+use lib.Dec.{eqb}
 use lib.ListN.{length, getD}
+use Rattle.laws.specs.Choice.{pick}
 use Rattle.laws.specs.Sum.{total, unless}
 use Rattle.laws.specs.Fill.{listed}
 use Rattle.model.specs.Sheet.{Sheet}
@@ -70,3 +72,40 @@ pub record Copied (before after new : List ℕ) (moved : Bool) : Type 0 where
   pub exact : after ≡ new
   pub still : moved ≡ false → new ≡ before
   pub differs : moved ≡ true → new ≡ before → ⊥
+
+-- What a row's term comes to for certain, one a step, before a new job must come: one cost more than its whole periods have, and never more
+-- than its share. A row whose cost fills its period always has a job.
+unfoldable pub reach : ℕ → ℕ → ℕ → ℕ → ℕ
+reach cost period whole share = pick (eqb cost period) share (min (whole + cost) share)
+
+-- How far that is above the term at X.
+unfoldable pub roomOf : Sheet → List ℕ → List ℕ → ℕ → ℕ → ℕ → ℕ
+roomOf s R taken x cap i =
+    reach (s .cost i) (s .period i) ((x + getD R i 0 - s .cost i) / s .period i * s .cost i) (getD taken i 0) - termOf s R taken x cap i
+
+-- A jump on which the sum keeps up: what is gained already, and what the rooms let through in so many steps, is no less than m a step.
+pub record Jumped (room : List ℕ) (count gain m most far : ℕ) : Type 0 where
+  pub within : far ≤ most
+  pub gains : m * far ≤ gain + total (λ i. min far (getD room i 0)) count
+
+-- Rooms one for each row, none above a million.
+pub record Rooms (room : List ℕ) (count : ℕ) : Type 0 where
+  pub one-each : length room ≡ count
+  pub few : count ≤ 64
+  pub small : (i : ℕ) → i < count → getD room i 0 ≤ 1_000_000
+
+-- No X from x to x + far solves the equation: at each of them the terms fill m times the cap.
+abbrev pub Excluded : Sheet → List ℕ → List ℕ → ℕ → ℕ → ℕ → ℕ → ℕ → Type 0
+Excluded s R taken count m x cap far = (d : ℕ) → d ≤ far → m * (cap + d) ≤ total (termOf s R taken (x + d) (cap + d)) count
+
+-- The next number worth looking at: x itself only where it is not raised, and every number passed is below its value.
+pub record Onward (f : ℕ → ℕ) (x next : ℕ) : Type 0 where
+  pub from : x ≤ next
+  pub stands : next ≡ x → f x ≤ x
+  pub passed : (z : ℕ) → x ≤ z → z < next → z < f z
+
+-- What a line below row i's work gives at X: cost / period of the time, within its share and the cap, in parts of 2 ^ 32. The slope is rounded
+-- down to such parts.
+unfoldable pub lineOf : Sheet → List ℕ → List ℕ → ℕ → ℕ → ℕ → ℕ
+lineOf s R taken x cap i =
+    min (s .cost i * 4_294_967_296 / s .period i * (x + getD R i 0 - s .cost i)) (4_294_967_296 * min (getD taken i 0) cap)

@@ -1,6 +1,7 @@
 // The one-row question and the two engines, on lent words.
 mod checks;
 mod interference;
+mod jumps;
 mod passes;
 mod ray;
 mod response;
@@ -9,7 +10,7 @@ use checks::question_refusal;
 use checks::refine_refusal;
 use passes::run_at_once;
 use passes::run_rounds;
-use response::answer_row;
+use response::answer_quickly;
 use rows::Found;
 use rows::row_count;
 ghost use mathlib.Core.Path.{_≡_};
@@ -47,7 +48,7 @@ pub fn one_row(words: &[u32], processors: u32, method: u32, bounds: &[u32], row:
         };
     }
     let count = row_count(words) as u32;
-    let answer = answer_row(words, bounds, row, count, processors, method);
+    let answer = answer_quickly(words, bounds, row, count, processors, method);
     OneRow {
         refusal: 0,
         place: 0,

@@ -1,6 +1,7 @@
 // One row's answer: BCL by its formula, RTA by climbing from the cost.
 use crate::interference::fill_shares;
 use crate::interference::work_in_time;
+use crate::jumps::rta_quickly;
 use numbers::lesser;
 use rows::Found;
 use rows::cost;
@@ -177,5 +178,54 @@ pub(crate) fn answer_row(
         processors,
         method,
         &mut taken[..end],
+    )
+}
+
+// One row's answer by either method, RTA's by jumps, with space for what each other row takes and for its room.
+pub(crate) fn answer_quickly_in(
+    words: &[u32],
+    bounds: &[u32],
+    row: u32,
+    count: u32,
+    processors: u32,
+    method: u32,
+    taken: &mut [u32],
+    room: &mut [u32],
+) -> Found
+    requires { ⌜ Ready (now words) (now bounds) × (row < rowCount (now words)) × (count ≡ rowCount (now words)) × (1 ≤ processors) × (length (now taken) ≡ count) × (length (now room) ≡ count) ⌝ }
+    ensures { λ r. ⌜ r ≡ foundOf (answer (methodOf method) (sheetOf (now (words .entry))) processors row (now (bounds .entry))) ⌝ }
+{
+    fill_shares(words, bounds, row, count, taken);
+    if method == 0 {
+        bcl_row(words, bounds, taken, row, count, processors)
+    } else {
+        rta_quickly(words, bounds, taken, row, count, processors, room)
+    }
+}
+
+// One row's answer by either method, RTA's by jumps.
+pub(crate) fn answer_quickly(
+    words: &[u32],
+    bounds: &[u32],
+    row: u32,
+    count: u32,
+    processors: u32,
+    method: u32,
+) -> Found
+    requires { ⌜ Ready (now words) (now bounds) × (row < rowCount (now words)) × (count ≡ rowCount (now words)) × (1 ≤ processors) ⌝ }
+    ensures { λ r. ⌜ r ≡ foundOf (answer (methodOf method) (sheetOf (now (words .entry))) processors row (now (bounds .entry))) ⌝ }
+{
+    let mut taken = [0u32; 64];
+    let mut room = [0u32; 64];
+    let end = count as usize;
+    answer_quickly_in(
+        words,
+        bounds,
+        row,
+        count,
+        processors,
+        method,
+        &mut taken[..end],
+        &mut room[..end],
     )
 }

@@ -81,6 +81,20 @@ climbed-more f mono a x climbed moves =
       passed = climb-passes f mono a x (climbed .passed) moves;
     }
 
+-- Over a stretch on which every number is below its value: as far as it goes, its end included.
+pub climbed-stretch : (f : ℕ → ℕ) → Monotone f → (a x r : ℕ) → Climbed f a x → x < r → ((z : ℕ) → x ≤ z → z < r → z < f z) → Climbed f a r
+climbed-stretch f mono a x r climbed longer below =
+    let last : r - 1 < f (r - 1) = below (r - 1) (omega arith) (omega arith) in
+    let kept : f (r - 1) ≤ f r = mono (r - 1) r (omega arith) in
+    record {
+      from = le-trans (climbed .from) (omega arith);
+      rises = omega arith;
+      passed = λ z from before own.
+          ⊎-elim (λ (earlier : z < x). climbed .passed z from earlier own)
+          (λ (later : x ≤ z). let raised : z < f z = below z later before in omega arith)
+          (below-or-from z x);
+    }
+
 -- A number reached that is its own value is the least.
 pub climbed-found : (f : ℕ → ℕ) (a n x : ℕ) → Climbed f a x → x ≡ f x → x < a + n → least (fixed f) a n ≡ some x
 climbed-found f a n x climbed own inside =

@@ -1,6 +1,7 @@
 pub mod Order
 pub mod Choice
 pub mod Sum
+pub mod Concave
 pub mod Search
 pub mod Climb
 pub mod Fill

@@ -1,5 +1,6 @@
 pub mod Sheet
 pub mod Interference
+pub mod Rise
 pub mod Answer
 pub mod Refine
 pub mod Ray

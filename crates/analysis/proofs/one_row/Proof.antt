@@ -32,14 +32,14 @@ facts c = asked _ _ _ _ _ (passed c)
 cast-count : tie.Need-cast-count
 cast-count c = omega (arith, facts (c .before) .ready .rows .at-most)
 
-answer-row-requires : tie.Need-answer-row-requires
-answer-row-requires c κs =
+answer-quickly-requires : tie.Need-answer-quickly-requires
+answer-quickly-requires c κs =
     let known = facts (c .before) in
     (known .ready, known .there, c .row-count .ensures, known .processors)
 
 returns-2 : tie.Need-returns-2
 returns-2 c =
-    ap (λ (found : Found). let r : OneRow = record { refusal = 0; place = 0; answer = found } in r) (c .answer-row .ensures)
+    ap (λ (found : Found). let r : OneRow = record { refusal = 0; place = 0; answer = found } in r) (c .answer-quickly .ensures)
     ∙ sym (one-row-answered _ _ _ _ _ (passed (c .before .before)))
 
 pub one-row-spec : {M : Type 1} → statement M
@@ -50,5 +50,5 @@ one-row-spec =
     returns
     row-count-requires
     cast-count
-    answer-row-requires
+    answer-quickly-requires
     returns-2)

@@ -1,11 +1,6 @@
 -- `answer_in` prepares the shares and hands the row to the method that its number names.
 use borrow.Author.Needs.{needs}
-use mathlib.Core.Path.{_∙_, sym, ap}
-use denote.Ref.{now}
-use Rattle.model.specs.Answer.{Method, answer}
-use Rattle.model.proofs.Answer.{method-zero, method-other}
-use Rattle.rows.specs.Words.{sheetOf, foundOf}
-use native.Mathlib.Omega.{arith}
+use Rattle.analysis.proofs.ByMethod.{by-bcl, by-rta}
 use Rattle.analysis.proofs.response.answer_in.Statement.{statement}
 use Rattle.analysis.proofs.response.answer_in.Tie as tie
 
@@ -22,23 +17,13 @@ same-length : tie.Need-same-length
 same-length c = search needs
 
 returns : tie.Need-returns
-unfolding answer
-returns c =
-    let p = c .before .before .before .before .before .before .before .before .before .before in
-    c .bcl-row .ensures
-    ∙ ap (λ (m : Method). foundOf (answer m (sheetOf (now (p .args .words))) (p .args .processors) (p .args .row) (now (p .args .bounds))))
-    (sym (method-zero (p .args .method) (omega arith)))
+returns c = by-bcl _ _ _ _ _ _ (c .before .before .if1 .taken) (c .bcl-row .ensures)
 
 same-length-2 : tie.Need-same-length-2
 same-length-2 c = search needs
 
 returns-2 : tie.Need-returns-2
-unfolding answer
-returns-2 c =
-    let p = c .before .before .before .before .before .before .before .before .before .before in
-    c .rta-row .ensures
-    ∙ ap (λ (m : Method). foundOf (answer m (sheetOf (now (p .args .words))) (p .args .processors) (p .args .row) (now (p .args .bounds))))
-    (sym (method-other (p .args .method) (omega arith)))
+returns-2 c = by-rta _ _ _ _ _ _ (c .before .before .if1 .left) (c .rta-row .ensures)
 
 pub answer-in-spec : {M : Type 1} → statement M
 answer-in-spec =

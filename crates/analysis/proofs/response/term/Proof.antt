@@ -1,16 +1,16 @@
 -- `term` is the least of work, share and cap: a row that is ready has work of at least 1, so a least of 0 or 1 needs no more looking.
 use borrow.Author.Needs.{needs}
 use mathlib.Core.Path.{_∙_, ap₂}
-use Prim.Native.Nat.{ℕ, _+_, _*_, _≤_, min}
+use Prim.Native.Nat.{min}
 use lib.ListN.{getD}
 use denote.Ref.{now}
 use Rattle.model.specs.Sheet.{triples}
 use Rattle.model.specs.Interference.{work, workOf}
 use Rattle.rows.specs.Words.{sheetOf}
-use Rattle.rows.proofs.Words.{cost-word, period-word}
 use Rattle.rows.proofs.Checks.{sound-row}
 use Rattle.analysis.specs.Inner.{termOf}
 use Rattle.analysis.proofs.Limits.{bound-in-range, work-positive}
+use Rattle.analysis.proofs.Sizes.{sizes}
 use native.Mathlib.Omega.{arith}
 use Rattle.analysis.proofs.response.term.Statement.{statement}
 use Rattle.analysis.proofs.response.term.Tie as tie
@@ -23,25 +23,6 @@ shared-slice-read-lesser c = search needs
 
 lesser-requires : tie.Need-lesser-requires
 lesser-requires c κs = search needs
-
--- What is known of the other row's words and bound.
-record Sizes (cost period bound : ℕ) : Type 0 where
-  some-period : 1 ≤ period
-  by-period : cost ≤ period
-  small : period ≤ 1_000_000
-  from-cost : cost ≤ bound
-  by-limit : bound ≤ 1_000_000
-
-sizes : (s : tie.Start) → let words = now (s .args .words) in
-    Sizes (getD words (3 * s .args .other) 0) (getD words (3 * s .args .other + 2) 0) (getD (now (s .args .bounds)) (s .args .other) 0)
-sizes s =
-    let words = now (s .args .words) in
-    let other = s .args .other in
-    let sized = sound-row words (s .pre .0 .rows) other (s .pre .1) in
-    let range = bound-in-range words (now (s .args .bounds)) (s .pre .0) other (s .pre .1) in
-    let cost = cost-word words other in
-    let period = period-word words other in
-    record { some-period = omega arith; by-period = omega arith; small = omega arith; from-cost = omega arith; by-limit = omega arith }
 
 returns : tie.Need-returns
 unfolding termOf workOf
@@ -67,7 +48,7 @@ shared-slice-read-time : tie.Need-shared-slice-read-time
 shared-slice-read-time c = search needs
 
 add-time : tie.Need-add-time
-add-time c = let known = sizes (c .before .before .before .before .before .before .before) in omega (arith, c .before .before .before .before .before .before .before .pre .4)
+add-time c = let p = c .before .before .before .before .before .before .before in let known = sizes _ _ (p .pre .0) (p .args .other) (p .pre .1) in omega (arith, c .before .before .before .before .before .before .before .pre .4)
 
 mul-time-2 : tie.Need-mul-time-2
 mul-time-2 c = search needs
@@ -76,7 +57,7 @@ shared-slice-read-time-2 : tie.Need-shared-slice-read-time-2
 shared-slice-read-time-2 c = search needs
 
 sub-time : tie.Need-sub-time
-sub-time c = let known = sizes (c .before .before .before .before .before .before .before .before) in omega arith
+sub-time c = let p = c .before .before .before .before .before .before .before .before in let known = sizes _ _ (p .pre .0) (p .args .other) (p .pre .1) in omega arith
 
 mul-work-in-time : tie.Need-mul-work-in-time
 mul-work-in-time c = search needs
@@ -93,7 +74,7 @@ shared-slice-read-work-in-time-2 c = search needs
 work-in-time-requires : tie.Need-work-in-time-requires
 work-in-time-requires c κs =
     let p = c .before .before .before .before .before .before .before .before .before .before in
-    let known = sizes p in
+    let known = sizes _ _ (p .pre .0) (p .args .other) (p .pre .1) in
     omega (arith, p .pre .4)
 
 lesser-requires-2 : tie.Need-lesser-requires-2

@@ -1,0 +1,301 @@
+// RTA by jumps: climbs as the plain method does, but past every X that the terms at hand exclude.
+use crate::interference::work_in_time;
+use numbers::less;
+use numbers::lesser;
+use rows::Found;
+use rows::cost;
+use rows::deadline;
+ghost use mathlib.Core.Path.{_≡_};
+ghost use Prim.Native.Nat.{_+_, _*_, _≤_, _<_, min};
+ghost use lib.Dec.{leb};
+ghost use lib.ListN.{length, getD};
+ghost use Rattle.laws.specs.Sum.{total};
+ghost use Rattle.laws.specs.Fill.{listed};
+ghost use Rattle.model.specs.Interference.{rtaRight};
+ghost use Rattle.model.specs.Answer.{rtaAnswer};
+ghost use Rattle.rows.specs.Words.{rowCount, sheetOf, foundOf};
+ghost use Rattle.analysis.specs.Inner.{Ready, Prepared, termOf, reach, roomOf, Rooms, Jumped, lineOf, Excluded, Onward};
+
+// What another row adds at X, and its room: how much more it adds for certain, one a step.
+pub(crate) struct Rise {
+    pub term: u32,
+    pub room: u32,
+}
+
+// The rooms below a number of steps, added up, and how many are no smaller.
+pub(crate) struct Split {
+    pub full: u32,
+    pub wide: u32,
+}
+
+// What a term comes to for certain before a new job must come. Where the cost fills the period a job is always there.
+pub(crate) fn certain(own: u32, period: u32, whole: u32, share: u32) -> u32
+    requires { ⌜ (whole ≤ 2_000_000) × (own ≤ 1_000_000) ⌝ }
+    ensures { λ r. ⌜ r ≡ reach own period whole share ⌝ }
+{
+    if own == period {
+        share
+    } else {
+        lesser(whole + own, share)
+    }
+}
+
+// What another row adds at X, and its room. Where the share is 0 or 1 no division is needed.
+pub(crate) fn term_and_room(
+    words: &[u32],
+    bounds: &[u32],
+    taken: &[u32],
+    other: u32,
+    x: u32,
+    cap: u32,
+) -> Rise
+    requires { ⌜ Ready (now words) (now bounds) × (other < rowCount (now words)) × (length (now taken) ≡ rowCount (now words)) × (1 ≤ x) × (x ≤ 1_000_000) ⌝ }
+    ensures adds { λ r. ⌜ (r .term) ≡ termOf (sheetOf (now (words .entry))) (now (bounds .entry)) (now (taken .entry)) x cap other ⌝ }
+    ensures more { λ r. ⌜ (r .room) ≡ roomOf (sheetOf (now (words .entry))) (now (bounds .entry)) (now (taken .entry)) x cap other ⌝ }
+{
+    let share = taken[other as usize];
+    let most = lesser(share, cap);
+    if share <= 1 {
+        return Rise {
+            term: most,
+            room: share - most,
+        };
+    }
+    let at = 3 * (other as usize);
+    let second = at + 2;
+    let own = words[at];
+    let period = words[second];
+    let time = x + bounds[other as usize] - own;
+    let term = lesser(work_in_time(own, period, time), most);
+    let whole = time / period * own;
+    let room = certain(own, period, whole, share) - term;
+    Rise {
+        term: term,
+        room: room,
+    }
+}
+
+// What all other rows add at X; the room of each is written to the lent words.
+pub(crate) fn fill_rooms(
+    words: &[u32],
+    bounds: &[u32],
+    taken: &[u32],
+    count: u32,
+    x: u32,
+    cap: u32,
+    room: &mut [u32],
+) -> u32
+    requires { ⌜ Ready (now words) (now bounds) × (count ≡ rowCount (now words)) × (length (now taken) ≡ count) × (1 ≤ x) × (x ≤ 1_000_000) × (cap ≤ 1_000_000) × (length (now room) ≡ count) ⌝ }
+    ensures summed { λ r. ⌜ r ≡ total (termOf (sheetOf (now (words .entry))) (now (bounds .entry)) (now (taken .entry)) x cap) count ⌝ }
+    ensures filled { λ r. ⌜ now (room .exit) ≡ listed (roomOf (sheetOf (now (words .entry))) (now (bounds .entry)) (now (taken .entry)) x cap) count ⌝ }
+{
+    let mut sum = 0;
+    let mut other = 0;
+    while other < count {
+        let here = term_and_room(words, bounds, taken, other, x, cap);
+        sum += here.term;
+        room[other as usize] = here.room;
+        other += 1;
+    }
+    sum
+}
+
+// How much all rooms let through in so many steps: the small ones wholly, of the others one a step.
+pub(crate) fn split_rooms(room: &[u32], count: u32, far: u32) -> Split
+    requires { ⌜ Rooms (now room) count ⌝ }
+    ensures exact { λ r. ⌜ (r .full) + (r .wide) * far ≡ total (λ i. min far (getD (now (room .entry)) i 0)) count ⌝ }
+    ensures fits { λ r. ⌜ ((r .full) ≤ 64_000_000) × ((r .wide) ≤ 64) ⌝ }
+{
+    let mut full = 0;
+    let mut wide = 0;
+    let mut other = 0;
+    while other < count {
+        let here = room[other as usize];
+        if here < far {
+            full += here;
+        } else {
+            wide += 1;
+        }
+        other += 1;
+    }
+    Split {
+        full: full,
+        wide: wide,
+    }
+}
+
+// How many steps are excluded at once: the longest jump that Newton's rule meets, from the most downward, on which the sum keeps up.
+pub(crate) fn jump(room: &[u32], count: u32, gain: u32, processors: u32, most: u32) -> u32
+    requires { ⌜ Rooms (now room) count × (gain ≤ 64_000_000) × (processors ≤ 64) × (most ≤ 1_000_000) ⌝ }
+    ensures { λ r. ⌜ Jumped (now (room .entry)) count gain processors most r ⌝ }
+{
+    let mut far = most;
+    loop {
+        let split = split_rooms(room, count, far);
+        let wide = split.wide;
+        let sure = gain + split.full;
+        if processors * far <= sure + wide * far {
+            return far;
+        }
+        far = sure / (processors - wide);
+    }
+}
+
+// What the line below a row's work gives at X: its cost / period of the time, within its share and the cap, in parts of 2^32.
+pub(crate) fn line(
+    words: &[u32],
+    bounds: &[u32],
+    taken: &[u32],
+    other: u32,
+    x: u32,
+    cap: u32,
+) -> u64
+    requires { ⌜ Ready (now words) (now bounds) × (other < rowCount (now words)) × (length (now taken) ≡ rowCount (now words)) × (x ≤ 1_000_000) ⌝ }
+    ensures { λ r. ⌜ r ≡ lineOf (sheetOf (now (words .entry))) (now (bounds .entry)) (now (taken .entry)) x cap other ⌝ }
+{
+    let most = 4_294_967_296 * (lesser(taken[other as usize], cap) as u64);
+    let at = 3 * (other as usize);
+    let second = at + 2;
+    let own = words[at];
+    let slope = (own as u64) * 4_294_967_296 / (words[second] as u64);
+    let level = slope * ((x + bounds[other as usize] - own) as u64);
+    if level < most { level } else { most }
+}
+
+// What the lines of all other rows give at X.
+pub(crate) fn line_sum(
+    words: &[u32],
+    bounds: &[u32],
+    taken: &[u32],
+    count: u32,
+    x: u32,
+    cap: u32,
+) -> u64
+    requires { ⌜ Ready (now words) (now bounds) × (count ≡ rowCount (now words)) × (length (now taken) ≡ count) × (x ≤ 1_000_000) × (cap ≤ 1_000_000) ⌝ }
+    ensures { λ r. ⌜ r ≡ total (lineOf (sheetOf (now (words .entry))) (now (bounds .entry)) (now (taken .entry)) x cap) count ⌝ }
+{
+    let mut sum = 0;
+    let mut other = 0;
+    while other < count {
+        sum += line(words, bounds, taken, other, x, cap);
+        other += 1;
+    }
+    sum
+}
+
+// Whether the lines show that X does not solve the equation.
+pub(crate) fn line_excludes(
+    words: &[u32],
+    bounds: &[u32],
+    taken: &[u32],
+    count: u32,
+    processors: u32,
+    x: u32,
+    cap: u32,
+) -> bool
+    requires { ⌜ Ready (now words) (now bounds) × (count ≡ rowCount (now words)) × (length (now taken) ≡ count) × (processors ≤ 64) × (x ≤ 1_000_000) × (cap ≤ 1_000_000) ⌝ }
+    ensures { λ r. ⌜ r ≡ leb (4_294_967_296 * (processors * cap)) (total (lineOf (sheetOf (now (words .entry))) (now (bounds .entry)) (now (taken .entry)) x cap) count) ⌝ }
+{
+    4_294_967_296 * ((processors * cap) as u64) <= line_sum(words, bounds, taken, count, x, cap)
+}
+
+// A jump over many periods: the farthest, halving from the most down to 64, at whose two ends the lines exclude; else the near one.
+pub(crate) fn far_jump(
+    words: &[u32],
+    bounds: &[u32],
+    taken: &[u32],
+    count: u32,
+    processors: u32,
+    x: u32,
+    cap: u32,
+    near: u32,
+    most: u32,
+) -> u32
+    requires { ⌜ Ready (now words) (now bounds) × (count ≡ rowCount (now words)) × (length (now taken) ≡ count) × (processors ≤ 64) × (x + most ≤ 1_000_000) × (cap + most ≤ 1_000_000) × (near ≤ most) × Excluded (sheetOf (now words)) (now bounds) (now taken) count processors x cap near ⌝ }
+    ensures { λ r. ⌜ (r ≤ most) × Excluded (sheetOf (now (words .entry))) (now (bounds .entry)) (now (taken .entry)) count processors x cap r ⌝ }
+{
+    if !line_excludes(words, bounds, taken, count, processors, x, cap) {
+        return near;
+    }
+    let least = near + less(64, near);
+    let mut far = most;
+    while least < far {
+        if line_excludes(words, bounds, taken, count, processors, x + far, cap + far) {
+            return far;
+        }
+        far = far / 2;
+    }
+    near
+}
+
+// The next X worth looking at: X itself if it solves the equation, else the first that is not excluded, by a far jump where that is asked for.
+pub(crate) fn onward(
+    words: &[u32],
+    bounds: &[u32],
+    taken: &[u32],
+    row: u32,
+    count: u32,
+    processors: u32,
+    x: u32,
+    try_far: bool,
+    room: &mut [u32],
+) -> u32
+    requires { ⌜ Prepared (now words) (now bounds) (now taken) row count processors × ((sheetOf (now words)) .cost row ≤ x) × (x ≤ (sheetOf (now words)) .deadline row) × (length (now room) ≡ count) ⌝ }
+    ensures { λ r. ⌜ Onward (rtaRight (sheetOf (now (words .entry))) processors row (now (bounds .entry))) x r ⌝ }
+{
+    let own = cost(words, row);
+    let cap = x - own + 1;
+    let sum = fill_rooms(words, bounds, taken, count, x, cap, room);
+    if sum / processors < cap {
+        return x;
+    }
+    let most = deadline(words, row) - x;
+    let gain = sum - processors * cap;
+    let near = jump(room, count, gain, processors, most);
+    if !try_far {
+        return x + near + 1;
+    }
+    let far = far_jump(words, bounds, taken, count, processors, x, cap, near, most);
+    x + far + 1
+}
+
+// RTA: climbs from the cost past what is excluded to the least X that is its own right side, and gives up above the deadline. Every 16th step
+// tries to jump far.
+pub(crate) fn rta_quickly(
+    words: &[u32],
+    bounds: &[u32],
+    taken: &[u32],
+    row: u32,
+    count: u32,
+    processors: u32,
+    room: &mut [u32],
+) -> Found
+    requires { ⌜ Prepared (now words) (now bounds) (now taken) row count processors × (length (now room) ≡ count) ⌝ }
+    ensures { λ r. ⌜ r ≡ foundOf (rtaAnswer (sheetOf (now (words .entry))) processors row (now (bounds .entry))) ⌝ }
+{
+    let top = deadline(words, row);
+    let mut x = cost(words, row);
+    let mut step = 0u32;
+    loop {
+        step += 1;
+        let try_far = step % 16 == 0;
+        let next = onward(
+            words,
+            bounds,
+            taken,
+            row,
+            count,
+            processors,
+            x,
+            try_far,
+            room,
+        );
+        if next == x {
+            return Found::At(x);
+        }
+        if top < next {
+            return Found::Nowhere;
+        }
+        x = next;
+    }
+}
