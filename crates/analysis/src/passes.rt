@@ -1,5 +1,6 @@
 // Passes over all rows, and the two engines that repeat them until one changes nothing.
 use crate::ray::hasten;
+use crate::response::answer_quickly;
 use crate::response::answer_row;
 use rows::Found;
 use rows::deadline;
@@ -80,7 +81,7 @@ pub(crate) fn sweep_rows(
     let mut seen = 0;
     let mut row = 0;
     while row < count {
-        let found = answer_row(words, bounds, row, count, processors, method);
+        let found = answer_quickly(words, bounds, row, count, processors, method);
         let bound = bound_or(found, deadline(words, row));
         seen = with_mark(seen, found, row);
         if bounds[row as usize] != bound {

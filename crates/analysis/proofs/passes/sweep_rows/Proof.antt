@@ -25,8 +25,8 @@ loop-holds c =
     let p = c .before .before in
     (omega (arith, p .pre .0 .one-each, p .pre .1), sweep-start _ _ _)
 
-answer-row-requires : tie.Need-answer-row-requires Inv-loop μ-loop
-answer-row-requires c κs =
+answer-quickly-requires : tie.Need-answer-quickly-requires Inv-loop μ-loop
+answer-quickly-requires c κs =
     let p = c .before .before .before .before .before in
     let q = c .before .before .loop in
     let regular = ask-regular (now (p .args .words)) (p .args .processors) (p .args .method) in (
@@ -78,7 +78,7 @@ loop-again c =
     let p = c .before .before .before .before .before .before .before .before .before .before .before in
     let q = c .before .before .before .before .before .before .before .before .loop in
     let words = now (p .args .words) in
-    let asked = c .before .before .before .before .before .answer-row in
+    let asked = c .before .before .before .before .before .answer-quickly in
     let bound = c .before .before .before .bound-or in (
       length-set (q .bounds) (q .row) (bound .result) ∙ q .inv .0,
       rw (c .before .before .with-mark .ensures)
@@ -107,7 +107,7 @@ sweep-rows-spec =
     Inv-loop
     μ-loop
     loop-holds
-    answer-row-requires
+    answer-quickly-requires
     deadline-requires
     bound-or-requires
     with-mark-requires
