@@ -19,8 +19,9 @@ use Rattle.model.specs.Sheet.{Sheet}
 use Rattle.model.specs.Demand.{demandOf, demand, busy, busyLength, firstMiss, judged, verdict}
 use Rattle.model.proofs.Demand.{never-misses}
 use Rattle.rows.specs.Words.{foundOf}
-use Rattle.demand.specs.Inner.{furthest}
-use Rattle.demand.proofs.Row.{nextDue, due-ahead, jobs-demand, jobs-same}
+use Rattle.demand.specs.OneProcessor.{outcomeOf}
+use Rattle.demand.specs.Inner.{nextDue, furthest, withoutMiss}
+use Rattle.demand.proofs.Row.{due-ahead, jobs-demand, jobs-same}
 
 -- The first rows, looked at in length t: their demand, which does not exceed t, and a length behind t, at most one behind the last, before
 -- which none of them has a deadline.
@@ -40,21 +41,6 @@ pub record Cleared (s : Sheet) (last t : ℕ) : Type 0 where
 -- Before length 1 there is nothing to clear.
 pub cleared-first : (s : Sheet) (last : ℕ) → 1 ≤ last → Cleared s last 1
 cleared-first s last some-length = record { positive = omega arith; within = some-length; lowest = λ u from below. absurd (omega arith) }
-
--- The last length to look at, as the code finds it.
-pub furthest-found : (b : Option ℕ) (h : ℕ) → furthest (foundOf b) h ≡ orElse b h
-unfolding furthest foundOf
-furthest-found none h = refl
-furthest-found (some b) h = refl
-
--- The busy length, or else the horizon, lies from 1 to the horizon.
-pub last-within : (s : Sheet) (h : ℕ) → 1 ≤ h → (1 ≤ orElse (busyLength s h) h) × (orElse (busyLength s h) h ≤ h)
-unfolding busyLength
-last-within s h some-length = found (busyLength s h) (least-means (λ t. eqb t (busy s t)) 1 h)
-  where
-    found : (b : Option ℕ) → Searched (λ t. eqb t (busy s t)) 1 h b → (1 ≤ orElse b h) × (orElse b h ≤ h)
-    found none searched = (some-length, le-refl h)
-    found (some b) searched = let inside : b < 1 + h = searched .inside in (searched .from, omega arith)
 
 -- No row looked at.
 pub looked-none : (s : Sheet) (last t : ℕ) → t ≤ last → Looked s last t 0 0 (last + 1)
@@ -125,18 +111,3 @@ module _ (s : Sheet) (positive : (i : ℕ) → i < s .rows → 1 ≤ s .period i
       let ahead : t < next = looked .ahead in
       let from : 1 ≤ t = cleared .positive in
       record { positive = omega arith; within = within; lowest = clear-below last t sum next cleared looked }
-
-  -- No miss up to the busy length is no miss.
-  clean : (h : ℕ) (b : Option ℕ) → Searched (λ t. eqb t (busy s t)) 1 h b → ((u : ℕ) → 1 ≤ u → u ≤ orElse b h → demand s u ≤ u)
-      → (u : ℕ) → 1 ≤ u → u ≤ h → demand s u ≤ u
-  clean h none searched early u from upto = early u from upto
-  clean h (some b) searched early u from upto = never-misses s positive b (searched .from) (eqb-true _ _ (searched .passes)) early u from
-
-  -- With no miss up to the busy length, or else the horizon, the busy length decides.
-  pub clean-verdict : (h : ℕ) → ((u : ℕ) → 1 ≤ u → u ≤ orElse (busyLength s h) h → demand s u ≤ u)
-      → verdict s h ≡ judged none (busyLength s h)
-  unfolding verdict firstMiss busyLength
-  clean-verdict h early =
-      ap (λ (r : Option ℕ). judged r (busyLength s h))
-      (least-fixed (λ t. ltb t (demand s t)) 1 h none
-      (λ u from below. le-ltb _ _ (clean h (busyLength s h) (least-means (λ t. eqb t (busy s t)) 1 h) early u from (omega arith))))

@@ -1,18 +1,27 @@
 -- What sound words give each inner function: as many rows as were counted, each with its sizes.
 use mathlib.Core.Path.{_≡_, sym, _∙_}
 use mathlib.Core.List.{List}
-use Prim.Native.Nat.{ℕ, _+_, _≤_, _<_}
+use Prim.Native.Nat.{ℕ, _+_, _*_, _≤_, _<_}
 use native.Mathlib.Nat.{le-antisymm, le-trans}
 use native.Mathlib.Omega.{arith}
+use lib.ListN.{getD}
 use Rattle.laws.specs.Sum.{total}
 use Rattle.laws.proofs.Sum.{total-within}
-use Rattle.model.specs.Demand.{busyOf, busy}
+use Rattle.model.specs.Sheet.{triples}
+use Rattle.model.specs.Demand.{demandOf, busyOf, busy}
 use Rattle.model.proofs.Sheet.{SizedRow, periods-positive}
 use Rattle.rows.specs.Words.{rowCount, sheetOf}
 use Rattle.rows.proofs.Words.{sheet-rows}
 use Rattle.rows.proofs.Checks.{sound-row}
-use Rattle.demand.specs.Inner.{Given}
+use Rattle.demand.specs.Inner.{Given, RowGiven}
+use Rattle.demand.proofs.Row.{sized-fits}
 use Rattle.demand.proofs.Busy.{busy-rises, busy-small}
+
+-- Cost, deadline and period of a row as they stand in the words.
+pub row-words : (words : List ℕ) (row length : ℕ) → RowGiven words row length
+    → SizedRow (getD words (3 * row) 0) (getD words (3 * row + 1) 0) (getD words (3 * row + 2) 0)
+unfolding sheetOf triples
+row-words words row length given = sound-row words (given .sound) row (given .here)
 
 module _ (words : List ℕ) (count length : ℕ) (given : Given words count length) where
   -- The rows counted are the sheet's.
@@ -30,9 +39,19 @@ module _ (words : List ℕ) (count length : ℕ) (given : Given words count leng
   pub sized : (row : ℕ) → row < count → SizedRow ((sheetOf words) .cost row) ((sheetOf words) .deadline row) ((sheetOf words) .period row)
   sized row here = sound-row words (given .sound) row (rw (← given .counted) here)
 
+  -- What is asked where one row is looked at in a length from 1 to this one.
+  pub row-given : (row upto : ℕ) → row < count → upto ≤ length → RowGiven words row upto
+  row-given row upto here shorter =
+      record { sound = given .sound; here = rw (← given .counted) here; within = le-trans shorter (given .within) }
+
   -- Each period is at least 1.
   pub positive : (row : ℕ) → row < (sheetOf words) .rows → 1 ≤ (sheetOf words) .period row
   positive = periods-positive (sheetOf words) (given .sound .allowed)
+
+  -- Each row demands at most the length.
+  pub demand-each : (t row : ℕ) → row < count → demandOf (sheetOf words) t row ≤ t
+  unfolding demandOf
+  demand-each t row here = sized-fits _ _ _ t (sized row here)
 
   -- Each row adds at most 17,777,216 to the busy sum.
   busy-each : (row : ℕ) → row < count → busyOf (sheetOf words) length row ≤ 17_777_216

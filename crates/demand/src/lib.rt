@@ -1,5 +1,6 @@
 // The exact test for one processor, on rows in lent words.
 mod climb;
+mod jobs;
 mod lengths;
 
 use climb::busy_length;
