@@ -3,5 +3,6 @@ pub mod Busy
 pub mod Looked
 pub mod Sound
 pub mod Last
+pub mod Backward
 pub mod Checked
 pub mod Promised

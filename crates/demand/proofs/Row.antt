@@ -34,7 +34,7 @@ jobs-demand c d p t = split (ltb t d)
     split false = refl
 
 -- A row whose cost is at most its deadline and its period demands at most the length.
-pub row-fits : (c d p t : ℕ) → c ≤ d → c ≤ p → rowDemand c d p t ≤ t
+row-fits : (c d p t : ℕ) → c ≤ d → c ≤ p → rowDemand c d p t ≤ t
 row-fits c d p t by-deadline by-period =
     ⊎-elim (λ (early : t < d). rw (demand-before c d p t early) (omega arith))
     (λ (due : d ≤ t).
@@ -55,7 +55,7 @@ due-ahead d p t positive =
     (below-or-from t d)
 
 -- It lies at most a period behind it, where the deadline is at most the period.
-pub due-near : (d p t : ℕ) → d ≤ p → nextDue d p t ≤ t + p
+due-near : (d p t : ℕ) → d ≤ p → nextDue d p t ≤ t + p
 unfolding nextDue
 due-near d p t by-period =
     ⊎-elim (λ (early : t < d). rw (jobs-before d p t early, zero-mul p) (omega arith))

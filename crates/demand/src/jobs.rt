@@ -1,12 +1,14 @@
 // One row in a length: the jobs due within it, what they demand, and the first deadline behind it.
+use numbers::less;
 ghost use mathlib.Core.Path.{_≡_};
 ghost use Prim.Native.Nat.{_≤_};
 ghost use Rattle.rows.specs.Words.{sheetOf};
 ghost use Rattle.demand.specs.Inner.{RowGiven, jobsWithin, lookOf};
 
-// What a look at a row shows: its demand in the length, and its first deadline behind the length.
+// What a look at a row shows: its demand in the length, its last deadline within the length, or 0, and its first behind the length.
 pub(crate) struct Look {
     pub demand: u32,
+    pub since: u32,
     pub next: u32,
 }
 
@@ -36,6 +38,7 @@ pub(crate) fn look_at(words: &[u32], row: u32, length: u32) -> Look
     let next = deadline + jobs * period;
     Look {
         demand: demand,
+        since: less(next, period),
         next: next,
     }
 }

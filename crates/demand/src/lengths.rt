@@ -1,5 +1,6 @@
 // The least length with demand above it, looked for from one deadline to the next, and no further than the busy length.
 use crate::Outcome;
+use crate::clear::clear_up_to;
 use crate::jobs::look_at;
 use numbers::lesser;
 use rows::Found;
@@ -29,15 +30,18 @@ pub(crate) fn without_miss(busy: Found) -> Outcome
     }
 }
 
-// What the horizon shows, given the busy length within it. Behind length 1 each length looked at is a deadline of some row, and none lies
-// behind the busy length.
+// What the horizon shows, given the busy length within it. The lengths up to the first that backward steps leave open are clear; behind
+// it each length looked at is a deadline of some row, and none lies behind the busy length.
 pub(crate) fn outcome_within(words: &[u32], count: u32, horizon: u32, busy: Found) -> Outcome
     requires { ⌜ BusyGiven (now words) count horizon busy ⌝ }
     ensures { λ r. ⌜ r ≡ outcomeOf (verdict (sheetOf (now (words .entry))) horizon) ⌝ }
 {
     let last = last_length(busy, horizon);
-    let mut length = 1;
+    let mut length = clear_up_to(words, count, last) + 1;
     'lengths: loop {
+        if last < length {
+            break 'lengths without_miss(busy);
+        }
         let mut sum = 0;
         let mut next = last + 1;
         let mut row = 0;
@@ -49,9 +53,6 @@ pub(crate) fn outcome_within(words: &[u32], count: u32, horizon: u32, busy: Foun
             }
             next = lesser(next, look.next);
             row += 1;
-        }
-        if last < next {
-            break 'lengths without_miss(busy);
         }
         length = next;
     }

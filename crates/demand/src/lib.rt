@@ -1,4 +1,5 @@
 // The exact test for one processor, on rows in lent words.
+mod clear;
 mod climb;
 mod jobs;
 mod lengths;

@@ -1,7 +1,7 @@
 -- `demand::climb::busy_sum` meets its contract. The loop's invariant: the sum is that of the rows passed. At most 64 rows keep it
 -- below 2 ^ 31.
 use mathlib.Core.Path.{_≡_, refl, _∙_, ap}
-use Prim.Native.Nat.{_+_, _-_, _≤_}
+use Prim.Native.Nat.{_-_, _≤_}
 use native.Mathlib.Nat.{le-refl}
 use native.Mathlib.Omega.{arith}
 use Rattle.laws.specs.Sum.{total}
@@ -46,7 +46,8 @@ unfolding busy
 returns c =
     let p = c .before .before .before in
     let q = c .before .loop in
-    q .inv .1 ∙ ap (total (busyOf (sheetOf (p .args .words .now)) (p .args .length))) (all-passed _ _ _ (p .pre .0) (q .row) (q .inv .0) (c .loop-test .left))
+    q .inv .1
+    ∙ ap (total (busyOf (sheetOf (p .args .words .now)) (p .args .length))) (all-passed _ _ _ (p .pre .0) (q .row) (q .inv .0) (c .loop-test .left))
 
 pub busy-sum-spec : {M : Type 1} → statement M
 busy-sum-spec =

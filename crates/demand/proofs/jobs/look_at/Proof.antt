@@ -1,12 +1,11 @@
 -- `demand::jobs::look_at` meets its contract: a row's demand is its jobs, each of its cost, and both numbers stay near the length.
 use borrow.Author.Needs.{needs}
-use mathlib.Core.Path.{_≡_, sym, _∙_}
-use Prim.Native.Nat.{ℕ, _+_, _*_, _≤_}
+use Prim.Native.Nat.{_+_, _*_, _≤_}
 use native.Mathlib.Omega.{arith}
 use lib.ListN.{getD}
 use denote.Ref.{now}
 use Rattle.model.specs.Sheet.{triples}
-use Rattle.model.specs.Demand.{rowDemand, demandOf}
+use Rattle.model.specs.Demand.{demandOf}
 use Rattle.model.proofs.Sheet.{SizedRow}
 use Rattle.rows.specs.Words.{sheetOf}
 use Rattle.demand.specs.Inner.{nextDue, lookOf}
@@ -70,9 +69,12 @@ mul-next c = let bounds = small (c .before) in omega arith
 add-next : tie.Need-add-next
 add-next c = let bounds = small (c .before) in omega arith
 
+less-requires : tie.Need-less-requires
+less-requires c κs = search needs
+
 returns : tie.Need-returns
 unfolding lookOf demandOf nextDue sheetOf triples
-returns c = rw (c .before .jobs-within .ensures, jobs-demand)
+returns c = rw (c .less .ensures, c .before .before .jobs-within .ensures, jobs-demand)
 
 pub look-at-spec : {M : Type 1} → statement M
 look-at-spec =
@@ -91,4 +93,5 @@ look-at-spec =
     mul-demand-2
     mul-next
     add-next
+    less-requires
     returns)

@@ -1,17 +1,17 @@
--- `demand::lengths::outcome_within` meets its contract. The length loop's invariant: every length passed is clear. The row loop's: the rows
--- passed are looked at in this length. Each way out of the loops is one verdict.
+-- `demand::lengths::outcome_within` meets its contract. The length loop's invariant: every length before this one is clear. The row loop's:
+-- the rows passed are looked at in this length. Each way out of the loops is one verdict.
 use borrow.Author.Needs.{needs}
 use mathlib.Core.Path.{_≡_, sym, _∙_, ap}
-use Prim.Native.Nat.{_+_, _-_, _≤_, _<_}
+use Prim.Native.Nat.{_+_, _-_, _≤_}
+use native.Mathlib.Nat.{le-trans}
 use native.Mathlib.Omega.{arith}
-use Rattle.model.specs.Sheet.{Sheet}
 use Rattle.model.specs.Demand.{demandOf, miss}
 use Rattle.model.proofs.Demand.{verdict-fixed}
 use Rattle.rows.specs.Words.{sheetOf}
 use Rattle.demand.specs.OneProcessor.{outcomeOf}
 use Rattle.demand.specs.Inner.{lookOf}
-use Rattle.demand.proofs.Looked.{Looked, Cleared, cleared-first, looked-none, looked-more, looked-over, cleared-next, clear-below}
-use Rattle.demand.proofs.Sound.{inside, all-passed, positive, row-given, demand-each}
+use Rattle.demand.proofs.Looked.{Looked, Cleared, cleared-first, looked-none, looked-more, looked-over, cleared-next}
+use Rattle.demand.proofs.Sound.{shorter-given, inside, all-passed, positive, row-given, demand-each}
 use Rattle.demand.proofs.Last.{last-bounds, decided}
 use Rattle.demand.proofs.lengths.outcome_within.Statement.{statement}
 use Rattle.demand.proofs.lengths.outcome_within.Tie as tie
@@ -26,56 +26,74 @@ abbrev Inv-lengths : tie.InvT-lengths
 Inv-lengths words count horizon busy last length₀ length = Cleared (sheetOf words) last length
 
 abbrev μ-lengths : tie.MeasureT-lengths
-μ-lengths words count horizon busy last length₀ length = last - length
+μ-lengths words count horizon busy last length₀ length = last + 1 - length
 
--- The last length to look at lies from 1 to the horizon.
+-- The last length to look at is at most the horizon, which is at most 16,777,216.
 bounds : (c : tie.After-last-length Inv-loop μ-loop Inv-lengths μ-lengths)
-    → (1 ≤ c .last-length .result) × (c .last-length .result ≤ c .before .before .args .horizon)
-bounds c = rw (c .last-length .ensures) (last-bounds _ _ _ _ (c .before .before .pre))
+    → (c .last-length .result ≤ c .before .before .args .horizon) × (c .last-length .result ≤ 16_777_216)
+bounds c =
+    let p = c .before .before in
+    let upto : c .last-length .result ≤ p .args .horizon = rw (c .last-length .ensures) (last-bounds _ _ _ _ (p .pre) .1) in
+    (upto, le-trans upto (p .pre .given .within))
 
--- So a length looked at is at most the horizon.
-short : (c : tie.At-lengths Inv-loop μ-loop Inv-lengths μ-lengths) → c .lengths .length ≤ c .before .before .before .args .horizon
-short c = let last = bounds (c .before) in let cleared = c .lengths .inv in omega arith
+-- A length looked at is at most the horizon.
+short : (c : tie.Else1 Inv-loop μ-loop Inv-lengths μ-lengths)
+    → c .before .lengths .length ≤ c .before .before .before .before .before .args .horizon
+short c = le-trans (c .if1 .left) (bounds (c .before .before .before) .0)
 
--- What a turn adds is the row's demand, at most the length.
+-- What a turn adds is the row's demand.
 part : (c : tie.After-look-at Inv-loop μ-loop Inv-lengths μ-lengths)
     → let q = c .before .before in
-    c .look-at .result .demand ≡ demandOf (sheetOf (q .before .before .before .before .args .words .now)) (q .before .lengths .length) (q .loop .row)
+    let s = sheetOf (q .before .before .before .before .before .before .args .words .now) in
+    c .look-at .result .demand ≡ demandOf s (q .before .before .lengths .length) (q .loop .row)
 unfolding lookOf
 part c = rw (c .look-at .ensures)
+
+-- Behind the row loop all rows are looked at.
+all-looked : (c : tie.After-loop Inv-loop μ-loop Inv-lengths μ-lengths)
+    → let q = c .before .before .before in
+    let s = sheetOf (q .before .before .before .before .args .words .now) in
+    Looked s (q .before .before .last-length .result) (q .lengths .length) (s .rows) (c .before .loop .sum) (c .before .loop .next)
+all-looked c =
+    let p = c .before .before .before .before .before .before .before in
+    let q = c .before .loop in
+    rw (all-passed _ _ _ (p .pre .given) (q .row) (q .inv .0) (c .loop-test .left)) at (q .inv .1)
 
 last-length-requires : tie.Need-last-length-requires Inv-loop μ-loop Inv-lengths μ-lengths
 last-length-requires c κs = search needs
 
+clear-up-to-requires : tie.Need-clear-up-to-requires Inv-loop μ-loop Inv-lengths μ-lengths
+clear-up-to-requires c κs = shorter-given _ _ _ (c .before .before .pre .given) _ (bounds c .0)
+
+add-length : tie.Need-add-length Inv-loop μ-loop Inv-lengths μ-lengths
+add-length c = let last = bounds (c .before) in omega (arith, c .clear-up-to .ensures .0)
+
 lengths-holds : tie.Need-lengths-holds Inv-loop μ-loop Inv-lengths μ-lengths
-lengths-holds c = cleared-first _ _ (bounds c .0)
+lengths-holds c = cleared-first _ _ _ (c .clear-up-to .ensures .0) (c .clear-up-to .ensures .1)
+
+without-miss-requires : tie.Need-without-miss-requires Inv-loop μ-loop Inv-lengths μ-lengths
+without-miss-requires c κs = search needs
 
 add-next : tie.Need-add-next Inv-loop μ-loop Inv-lengths μ-lengths
-add-next c =
-    let last = bounds (c .before) in
-    let within : c .before .before .before .args .horizon ≤ 16_777_216 = c .before .before .before .pre .given .within in
-    omega arith
+add-next c = let last = bounds (c .before .before .before) in omega arith
 
 loop-holds : tie.Need-loop-holds Inv-loop μ-loop Inv-lengths μ-lengths
-loop-holds c = (omega arith, looked-none _ _ _ (c .lengths .inv .within))
+loop-holds c = (omega arith, looked-none _ _ _ (c .if1 .left))
 
 look-at-requires : tie.Need-look-at-requires Inv-loop μ-loop Inv-lengths μ-lengths
 look-at-requires c κs =
     let q = c .before .before in
-    row-given _ _ _ (q .before .before .before .pre .given) _ _ (c .loop-test .taken) (short q)
+    row-given _ _ _ (q .before .before .before .before .before .pre .given) _ _ (c .loop-test .taken) (short q)
 
 add-sum : tie.Need-add-sum Inv-loop μ-loop Inv-lengths μ-lengths
 add-sum c =
     let q = c .before .before .before in
-    let p = q .before .before .before .before in
-    let looked : q .loop .sum ≤ q .before .lengths .length = q .loop .inv .1 .within in
+    let p = q .before .before .before .before .before .before in
+    let t = q .before .before .lengths .length in
+    let looked : q .loop .sum ≤ t = q .loop .inv .1 .within in
     let within : p .args .horizon ≤ 16_777_216 = p .pre .given .within in
-    omega (
-      arith,
-      part (c .before),
-      demand-each _ _ _ (p .pre .given) (q .before .lengths .length) (q .loop .row) (omega arith),
-      short (q .before),
-    )
+    let upto : t ≤ p .args .horizon = short (q .before) in
+    omega (arith, part (c .before), demand-each _ _ _ (p .pre .given) t (q .loop .row) (omega arith) upto)
 
 lesser-requires : tie.Need-lesser-requires Inv-loop μ-loop Inv-lengths μ-lengths
 lesser-requires c κs = search needs
@@ -89,63 +107,48 @@ loop-less c = omega arith
 loop-again : tie.Need-loop-again Inv-loop μ-loop Inv-lengths μ-lengths
 unfolding lookOf
 loop-again c =
-    let q = c .before .before .before .before .before in
-    let p = q .before .before .before .before in
-    let look = c .before .before .before in (
+    let look = c .before .before .before in
+    let q = look .before .before in
+    let given = q .before .before .before .before .before .before .pre .given in (
       omega arith,
       rw (part look, c .lesser .ensures, look .look-at .ensures)
           (looked-more _ _ _ (q .loop .row) (q .loop .sum) (q .loop .next)
-          (positive _ _ _ (p .pre .given) _ (inside _ _ _ (p .pre .given) _ (omega arith))) (q .loop .inv .1)
-          (rw (part look) at (c .before .if1 .left))),
+          (positive _ _ _ given _ (inside _ _ _ given _ (omega arith))) (q .loop .inv .1)
+          (rw (part look) at (c .before .if2 .left))),
     )
 
--- Behind the row loop all rows are looked at.
-all-looked : (c : tie.After-loop Inv-loop μ-loop Inv-lengths μ-lengths)
-    → let q = c .before .before in
-    let s = sheetOf (q .before .before .before .args .words .now) in
-    Looked s (q .before .last-length .result) (q .lengths .length) (s .rows) (c .before .loop .sum) (c .before .loop .next)
-all-looked c =
-    let p = c .before .before .before .before .before in
-    rw (all-passed _ _ _ (p .pre .given) (c .before .loop .row) (c .before .loop .inv .0) (c .loop-test .left)) at (c .before .loop .inv .1)
-
-without-miss-requires : tie.Need-without-miss-requires Inv-loop μ-loop Inv-lengths μ-lengths
-without-miss-requires c κs = search needs
-
 lengths-less : tie.Need-lengths-less Inv-loop μ-loop Inv-lengths μ-lengths
-lengths-less c = let looked = all-looked (c .before) in omega arith
+lengths-less c = let looked = all-looked c in let before = c .before .before .if1 .left in omega arith
 
 lengths-again : tie.Need-lengths-again Inv-loop μ-loop Inv-lengths μ-lengths
 lengths-again c =
     let q = c .before .before .before in
-    cleared-next _ (positive _ _ _ (q .before .before .before .pre .given)) _ _ _ _ (q .lengths .inv) (all-looked (c .before)) (c .if2 .left)
+    cleared-next _ (positive _ _ _ (q .before .before .before .before .pre .given)) _ _ _ _ (q .lengths .inv) (all-looked c)
 
 returns : tie.Need-returns Inv-loop μ-loop Inv-lengths μ-lengths
-unfolding outcomeOf
 returns c =
-    let q = c .before .before .before .before in
-    let p = q .before .before .before .before in
-    let cleared = q .before .lengths .inv in
+    let q = c .before .before in
+    c .without-miss .ensures
+    ∙ decided _ _ _ _ (q .before .before .before .before .pre)
+    (λ u from upto. q .lengths .inv .lowest u from (omega (arith, q .before .before .last-length .ensures)))
+
+returns-2 : tie.Need-returns-2 Inv-loop μ-loop Inv-lengths μ-lengths
+unfolding outcomeOf
+returns-2 c =
+    let look = c .before .before in
+    let q = look .before .before in
+    let p = q .before .before .before .before .before .before in
+    let cleared = q .before .before .lengths .inv in
     sym
     (ap outcomeOf
-    (verdict-fixed _ _ (miss (q .before .lengths .length))
+    (verdict-fixed _ _ (miss (q .before .before .lengths .length))
     (record {
       positive = cleared .positive;
       within = short (q .before);
       over = looked-over _ _ _ _ _ _ (q .loop .inv .1) (inside _ _ _ (p .pre .given) (q .loop .row) (omega arith))
-          (rw (part (c .before .before)) at (c .if1 .taken));
+          (rw (part look) at (c .if2 .taken));
       lowest = cleared .lowest;
     })))
-
-returns-2 : tie.Need-returns-2 Inv-loop μ-loop Inv-lengths μ-lengths
-returns-2 c =
-    let loop = c .before .before in
-    let q = loop .before .before in
-    let p = q .before .before .before in
-    c .without-miss .ensures
-    ∙ decided _ _ _ _ (p .pre)
-    (λ u from upto.
-    clear-below _ (positive _ _ _ (p .pre .given)) _ _ _ _ (q .lengths .inv) (all-looked loop) u from
-    (omega (arith, q .before .last-length .ensures)))
 
 pub outcome-within-spec : {M : Type 1} → statement M
 outcome-within-spec =
@@ -156,7 +159,10 @@ outcome-within-spec =
     Inv-lengths
     μ-lengths
     last-length-requires
+    clear-up-to-requires
+    add-length
     lengths-holds
+    without-miss-requires
     add-next
     loop-holds
     look-at-requires
@@ -165,7 +171,6 @@ outcome-within-spec =
     add-row
     loop-less
     loop-again
-    without-miss-requires
     lengths-less
     lengths-again
     returns
