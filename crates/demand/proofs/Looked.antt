@@ -1,26 +1,18 @@
 -- From one deadline to the next. Demand changes only at deadlines, so a length that does not miss clears every length up to the next
--- deadline of any row; and no miss up to the busy length is no miss at all.
+-- deadline of any row.
 use mathlib.Core.Path.{_≡_, refl, sym, _∙_, ap}
 use mathlib.Core.Logic.{⊎-elim}
-use mathlib.Core.Option.{Option, none, some}
 use Prim.Native.Nat.{ℕ, _+_, _*_, _≤_, _<_, min}
-use native.Mathlib.Nat.{le-refl, le-trans}
+use native.Mathlib.Nat.{le-trans}
 use native.Mathlib.Omega.{arith}
 use borrow.Author.Count.{below-more}
-use borrow.Author.Tests.{le-ltb, eqb-true}
-use lib.Dec.{ltb, eqb}
-use Rattle.laws.specs.Choice.{orElse}
 use Rattle.laws.specs.Sum.{total}
-use Rattle.laws.specs.Search.{Searched}
 use Rattle.laws.proofs.Order.{below-or-from}
 use Rattle.laws.proofs.Sum.{total-step, total-same, total-fewer}
-use Rattle.laws.proofs.Search.{least-means, least-fixed}
 use Rattle.model.specs.Sheet.{Sheet}
-use Rattle.model.specs.Demand.{demandOf, demand, busy, busyLength, firstMiss, judged, verdict}
-use Rattle.model.proofs.Demand.{never-misses}
-use Rattle.rows.specs.Words.{foundOf}
-use Rattle.demand.specs.Inner.{furthest}
-use Rattle.demand.proofs.Row.{nextDue, due-ahead, jobs-demand, jobs-same}
+use Rattle.model.specs.Demand.{demandOf, demand}
+use Rattle.demand.specs.Inner.{nextDue, Clear}
+use Rattle.demand.proofs.Row.{due-ahead, jobs-demand, jobs-same}
 
 -- The first rows, looked at in length t: their demand, which does not exceed t, and a length behind t, at most one behind the last, before
 -- which none of them has a deadline.
@@ -31,30 +23,16 @@ pub record Looked (s : Sheet) (last t row sum next : ℕ) : Type 0 where
   pub upto : next ≤ last + 1
   pub quiet : (i : ℕ) → i < row → next ≤ nextDue (s .deadline i) (s .period i) t
 
--- Every length before t is clear, and t is one to look at.
+-- Every length before t is clear, and t is one to look at or the one behind the last.
 pub record Cleared (s : Sheet) (last t : ℕ) : Type 0 where
   pub positive : 1 ≤ t
-  pub within : t ≤ last
+  pub within : t ≤ last + 1
   pub lowest : (u : ℕ) → 1 ≤ u → u < t → demand s u ≤ u
 
--- Before length 1 there is nothing to clear.
-pub cleared-first : (s : Sheet) (last : ℕ) → 1 ≤ last → Cleared s last 1
-cleared-first s last some-length = record { positive = omega arith; within = some-length; lowest = λ u from below. absurd (omega arith) }
-
--- The last length to look at, as the code finds it.
-pub furthest-found : (b : Option ℕ) (h : ℕ) → furthest (foundOf b) h ≡ orElse b h
-unfolding furthest foundOf
-furthest-found none h = refl
-furthest-found (some b) h = refl
-
--- The busy length, or else the horizon, lies from 1 to the horizon.
-pub last-within : (s : Sheet) (h : ℕ) → 1 ≤ h → (1 ≤ orElse (busyLength s h) h) × (orElse (busyLength s h) h ≤ h)
-unfolding busyLength
-last-within s h some-length = found (busyLength s h) (least-means (λ t. eqb t (busy s t)) 1 h)
-  where
-    found : (b : Option ℕ) → Searched (λ t. eqb t (busy s t)) 1 h b → (1 ≤ orElse b h) × (orElse b h ≤ h)
-    found none searched = (some-length, le-refl h)
-    found (some b) searched = let inside : b < 1 + h = searched .inside in (searched .from, omega arith)
+-- Behind the lengths shown to be clear.
+pub cleared-first : (s : Sheet) (last upto : ℕ) → upto ≤ last → Clear s 0 upto → Cleared s last (upto + 1)
+cleared-first s last upto within clear =
+    record { positive = omega arith; within = omega arith; lowest = λ u from below. clear u from (omega arith) }
 
 -- No row looked at.
 pub looked-none : (s : Sheet) (last t : ℕ) → t ≤ last → Looked s last t 0 0 (last + 1)
@@ -108,7 +86,7 @@ module _ (s : Sheet) (positive : (i : ℕ) → i < s .rows → 1 ≤ s .period i
       ∙ sym (jobs-demand (s .cost i) (s .deadline i) (s .period i) t))
 
   -- All rows looked at in a clear length: every length before the next is clear.
-  pub clear-below : (last t sum next : ℕ) → Cleared s last t → Looked s last t (s .rows) sum next
+  clear-below : (last t sum next : ℕ) → Cleared s last t → Looked s last t (s .rows) sum next
       → (u : ℕ) → 1 ≤ u → u < next → demand s u ≤ u
   unfolding demand
   clear-below last t sum next cleared looked u from below =
@@ -119,24 +97,9 @@ module _ (s : Sheet) (positive : (i : ℕ) → i < s .rows → 1 ≤ s .period i
       omega (arith, demand-same t u next later below (looked .quiet)))
       (below-or-from u t)
 
-  -- The next length to look at.
-  pub cleared-next : (last t sum next : ℕ) → Cleared s last t → Looked s last t (s .rows) sum next → next ≤ last → Cleared s last next
-  cleared-next last t sum next cleared looked within =
+  -- So it is the next to look at, or the one behind the last.
+  pub cleared-next : (last t sum next : ℕ) → Cleared s last t → Looked s last t (s .rows) sum next → Cleared s last next
+  cleared-next last t sum next cleared looked =
       let ahead : t < next = looked .ahead in
       let from : 1 ≤ t = cleared .positive in
-      record { positive = omega arith; within = within; lowest = clear-below last t sum next cleared looked }
-
-  -- No miss up to the busy length is no miss.
-  clean : (h : ℕ) (b : Option ℕ) → Searched (λ t. eqb t (busy s t)) 1 h b → ((u : ℕ) → 1 ≤ u → u ≤ orElse b h → demand s u ≤ u)
-      → (u : ℕ) → 1 ≤ u → u ≤ h → demand s u ≤ u
-  clean h none searched early u from upto = early u from upto
-  clean h (some b) searched early u from upto = never-misses s positive b (searched .from) (eqb-true _ _ (searched .passes)) early u from
-
-  -- With no miss up to the busy length, or else the horizon, the busy length decides.
-  pub clean-verdict : (h : ℕ) → ((u : ℕ) → 1 ≤ u → u ≤ orElse (busyLength s h) h → demand s u ≤ u)
-      → verdict s h ≡ judged none (busyLength s h)
-  unfolding verdict firstMiss busyLength
-  clean-verdict h early =
-      ap (λ (r : Option ℕ). judged r (busyLength s h))
-      (least-fixed (λ t. ltb t (demand s t)) 1 h none
-      (λ u from below. le-ltb _ _ (clean h (busyLength s h) (least-means (λ t. eqb t (busy s t)) 1 h) early u from (omega arith))))
+      record { positive = omega arith; within = looked .upto; lowest = clear-below last t sum next cleared looked }

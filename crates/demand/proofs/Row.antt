@@ -3,7 +3,7 @@ use mathlib.Core.Path.{_≡_, refl, sym, _∙_}
 use mathlib.Core.Bool.{Bool, true, false}
 use mathlib.Core.Logic.{⊎-elim}
 use Prim.Native.Nat.{ℕ, _+_, _*_, _-_, _/_, _≤_, _<_}
-use native.Mathlib.Nat.{zero-mul, add-mul, mul-le-mul-left, div-mul-le-self, div-lt-iff-lt-mul, lt-div-mul-add}
+use native.Mathlib.Nat.{le-trans, zero-mul, add-mul, mul-le-mul-left, div-mul-le-self, div-lt-iff-lt-mul, lt-div-mul-add}
 use native.Mathlib.Omega.{arith}
 use borrow.Author.Tests.{lt-ltb, le-ltb}
 use lib.Dec.{ltb}
@@ -11,8 +11,9 @@ use Rattle.laws.specs.Choice.{pick}
 use Rattle.laws.proofs.Order.{below-or-from, div-mono}
 use Rattle.laws.proofs.Choice.{pick-yes, pick-no}
 use Rattle.model.specs.Demand.{rowDemand}
+use Rattle.model.proofs.Sheet.{SizedRow}
 use Rattle.model.proofs.Demand.{demand-before, demand-from}
-use Rattle.demand.specs.Inner.{jobsWithin}
+use Rattle.demand.specs.Inner.{jobsWithin, nextDue}
 
 -- Before the first deadline no job is due; from it on, one and one more for each whole period behind it.
 pub jobs-before : (d p t : ℕ) → t < d → jobsWithin d p t ≡ 0
@@ -33,7 +34,7 @@ jobs-demand c d p t = split (ltb t d)
     split false = refl
 
 -- A row whose cost is at most its deadline and its period demands at most the length.
-pub row-fits : (c d p t : ℕ) → c ≤ d → c ≤ p → rowDemand c d p t ≤ t
+row-fits : (c d p t : ℕ) → c ≤ d → c ≤ p → rowDemand c d p t ≤ t
 row-fits c d p t by-deadline by-period =
     ⊎-elim (λ (early : t < d). rw (demand-before c d p t early) (omega arith))
     (λ (due : d ≤ t).
@@ -41,11 +42,10 @@ row-fits c d p t by-deadline by-period =
     (omega (arith, mul-le-mul-left ((t - d) / p) by-period, div-mul-le-self (t - d) p)))
     (below-or-from t d)
 
--- The first deadline behind a length.
-unfoldable pub nextDue : ℕ → ℕ → ℕ → ℕ
-nextDue d p t = d + jobsWithin d p t * p
+pub sized-fits : (c d p t : ℕ) → SizedRow c d p → rowDemand c d p t ≤ t
+sized-fits c d p t sized = row-fits c d p t (sized .by-deadline) (le-trans (sized .by-deadline) (sized .within-period))
 
--- It lies behind the length.
+-- The first deadline behind a length lies behind the length.
 pub due-ahead : (d p t : ℕ) → 1 ≤ p → t < nextDue d p t
 unfolding nextDue
 due-ahead d p t positive =
@@ -55,7 +55,7 @@ due-ahead d p t positive =
     (below-or-from t d)
 
 -- It lies at most a period behind it, where the deadline is at most the period.
-pub due-near : (d p t : ℕ) → d ≤ p → nextDue d p t ≤ t + p
+due-near : (d p t : ℕ) → d ≤ p → nextDue d p t ≤ t + p
 unfolding nextDue
 due-near d p t by-period =
     ⊎-elim (λ (early : t < d). rw (jobs-before d p t early, zero-mul p) (omega arith))
@@ -77,3 +77,12 @@ jobs-same d p t u positive later below =
     let fewest : (t - d) / p ≤ (u - d) / p = div-mono p (omega arith) in
     jobs-from d p u (omega arith) ∙ omega arith ∙ sym (jobs-from d p t due))
     (below-or-from t d)
+
+-- So a row of allowed sizes, looked at in an allowed length, has small numbers.
+pub look-small : (c d p t : ℕ) → SizedRow c d p → t ≤ 16_777_216
+    → (jobsWithin d p t * c ≤ 16_777_216) × (d + jobsWithin d p t * p ≤ 17_777_216)
+unfolding nextDue
+look-small c d p t sized short =
+    let small : p ≤ 1_000_000 = sized .small in
+    let near : d + jobsWithin d p t * p ≤ t + p = due-near d p t (sized .within-period) in
+    (rw (← jobs-demand c d p t) (le-trans (sized-fits c d p t sized) short), omega arith)

@@ -1,22 +1,32 @@
 // The busy length, climbed from 1: each length that is not its own busy sum is replaced by that sum.
 use rows::Found;
-use rows::cost;
-use rows::period;
 ghost use mathlib.Core.Path.{_≡_};
-ghost use Rattle.model.specs.Demand.{busy, busyLength};
+ghost use Prim.Native.Nat.{_≤_};
+ghost use Rattle.model.specs.Demand.{busyOf, busy, busyLength};
 ghost use Rattle.rows.specs.Words.{sheetOf, foundOf};
-ghost use Rattle.demand.specs.Inner.{Given};
+ghost use Rattle.demand.specs.Inner.{Given, RowGiven};
+
+// A row's part of the busy sum: ceil(length / T) × C. From length 1 on the ceiling is one more than floor((length − 1) / T).
+pub(crate) fn busy_part(words: &[u32], row: u32, length: u32) -> u32
+    requires { ⌜ RowGiven (now words) row length ⌝ }
+    requires { ⌜ 1 ≤ length ⌝ }
+    ensures { λ r. ⌜ r ≡ busyOf (sheetOf (now (words .entry))) length row ⌝ }
+{
+    let at = 3 * (row as usize);
+    let period = at + 2;
+    ((length - 1) / words[period] + 1) * words[at]
+}
 
 // The sum of ceil(length / T) × C.
 pub(crate) fn busy_sum(words: &[u32], count: u32, length: u32) -> u32
     requires { ⌜ Given (now words) count length ⌝ }
+    requires { ⌜ 1 ≤ length ⌝ }
     ensures { λ r. ⌜ r ≡ busy (sheetOf (now (words .entry))) length ⌝ }
 {
     let mut sum = 0;
     let mut row = 0;
     while row < count {
-        let period = period(words, row);
-        sum += (length + period - 1) / period * cost(words, row);
+        sum += busy_part(words, row, length);
         row += 1;
     }
     sum

@@ -1,5 +1,7 @@
 // The exact test for one processor, on rows in lent words.
+mod clear;
 mod climb;
+mod jobs;
 mod lengths;
 
 use climb::busy_length;

@@ -23,7 +23,8 @@ loop-holds c = climbed-first _ 1 (busy-from-one _ _ _ (c .before .pre))
 busy-sum-requires : tie.Need-busy-sum-requires Inv-loop μ-loop
 busy-sum-requires c κs =
     let given = c .before .before .before .pre in
-    record { sound = given .sound; counted = given .counted; within = omega arith }
+    let climbed = c .before .loop .inv in
+    (record { sound = given .sound; counted = given .counted; within = omega arith }, omega arith)
 
 returns : tie.Need-returns Inv-loop μ-loop
 unfolding busyLength foundOf

@@ -1,12 +1,12 @@
--- `demand::lengths::jobs_within` meets its contract: by the test that the definition makes.
+-- `demand::jobs::jobs_within` meets its contract: by the test that the definition makes.
 use mathlib.Core.Path.{sym}
 use Prim.Native.Nat.{_-_}
 use native.Mathlib.Nat.{div-le-self}
 use native.Mathlib.Omega.{arith}
 use borrow.Author.Needs.{needs}
 use Rattle.demand.proofs.Row.{jobs-before, jobs-from}
-use Rattle.demand.proofs.lengths.jobs_within.Statement.{statement}
-use Rattle.demand.proofs.lengths.jobs_within.Tie as tie
+use Rattle.demand.proofs.jobs.jobs_within.Statement.{statement}
+use Rattle.demand.proofs.jobs.jobs_within.Tie as tie
 
 div-result : tie.Need-div-result
 div-result c = search needs
