@@ -34,7 +34,8 @@ pub(crate) struct Way {
     pub method: u32,
 }
 
-// How many steps a part lasts that falls by so much a step. A part above the cost gives 0, since its fall does not show.
+// How many steps a part lasts that falls by so much a step. A part above the cost gives 0, since its fall does not show, and so does one
+// that does not last for a whole fall.
 pub(crate) fn steps_within(part: u32, fall: u32, cost: u32) -> u32
     requires { ⌜ cost ≤ 1_000_000 ⌝ }
     ensures { λ r. ⌜ Lasts part fall cost r ⌝ }
@@ -43,6 +44,9 @@ pub(crate) fn steps_within(part: u32, fall: u32, cost: u32) -> u32
         return 0;
     }
     if fall == 0 {
+        return 0;
+    }
+    if part < fall {
         return 0;
     }
     part / fall + 1

@@ -1,26 +1,34 @@
 -- `steps_within` divides: a part holds its fall as many times as the quotient says.
 use native.Mathlib.Omega.{arith}
-use Prim.Native.Nat.{_/_}
+use Prim.Native.Nat.{ℕ, _/_}
 use native.Mathlib.Nat.{le-trans, mul-le-mul, le-refl, div-mul-le-self, div-le-self}
+use Rattle.analysis.specs.Ray.{Lasts}
 use borrow.Author.Needs.{needs}
 use Rattle.analysis.proofs.ray.steps_within.Statement.{statement}
 use Rattle.analysis.proofs.ray.steps_within.Tie as tie
 
+-- No step lasts anyhow.
+none : {part fall cost : ℕ} → Lasts part fall cost 0
+none = record { shows = λ some. absurd (omega arith); inside = λ t h. absurd (omega arith) }
+
 returns : tie.Need-returns
-returns c = record { shows = λ some. absurd (omega arith); inside = λ t h. absurd (omega arith) }
+returns c = none
 
 returns-2 : tie.Need-returns-2
-returns-2 c = record { shows = λ some. absurd (omega arith); inside = λ t h. absurd (omega arith) }
+returns-2 c = none
+
+returns-3 : tie.Need-returns-3
+returns-3 c = none
 
 div-result : tie.Need-div-result
 div-result c = search needs
 
 add-result : tie.Need-add-result
-add-result c = let p = c .before .before in omega (arith, div-le-self (p .args .part) (p .args .fall))
+add-result c = let p = c .before .before .before in omega (arith, div-le-self (p .args .part) (p .args .fall))
 
-returns-3 : tie.Need-returns-3
-returns-3 c =
-    let p = c .before .before in
+returns-4 : tie.Need-returns-4
+returns-4 c =
+    let p = c .before .before .before in
     record {
       shows = λ some. omega arith;
       inside = λ t h.
@@ -28,4 +36,4 @@ returns-3 c =
     }
 
 pub steps-within-spec : {M : Type 1} → statement M
-steps-within-spec = tie.close (tie.spec returns returns-2 div-result add-result returns-3)
+steps-within-spec = tie.close (tie.spec returns returns-2 returns-3 div-result add-result returns-4)
