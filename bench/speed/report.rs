@@ -10,9 +10,12 @@ use crate::timing::{ratio, under_a_second};
 /// Where `bench/climb --write` puts what it found.
 const CLIMBED: &str = "bench/speed/climbed.md";
 
-/// A number as a table shows it.
+/// A number as a table shows it, with more digits where it is small.
 fn shown(number: Option<f64>) -> String {
-    number.map_or("".to_string(), |number| format!("{number:.2}"))
+    let digits = |number: f64| if number < 0.1 { 4 } else { 2 };
+    number.map_or("".to_string(), |number| {
+        format!("{number:.*}", digits(number))
+    })
 }
 
 /// Whether a case is of the one-processor test.

@@ -27,7 +27,7 @@ pub fn climbing_pair(step: u64) -> Vec<Row> {
 
 /// The climbing pair among rows of cost 1 and as many rows that fill a processor each, on one processor more than these. With
 /// deadlines and periods of the pair raised by as many units as there are other rows, every row is marked, and only after
-/// many passes; without, the pair's first row is given up at once.
+/// many passes; without, all rows but one are given up at once.
 pub fn crowded_pair(step: u64, crowd: usize, raised: u64) -> Sheet {
     let pair = climbing_pair(step)
         .into_iter()

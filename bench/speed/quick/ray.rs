@@ -63,52 +63,88 @@ fn work_line(row: &[u32], reach: u32, drop: u32) -> Line {
     }
 }
 
+/// A row's own first move along a ray: its deadline window, the value it comes to, its drop, and the line of its cap.
+struct Move {
+    window: u32,
+    tried: u32,
+    drop: u32,
+    capped: Line,
+}
+
+/// The cap of a row's move: by BCL it is the same for every value, by RTA it falls with the value.
+fn cap_line(method: u32, cost: u32, window: u32, tried: u32, drop: u32) -> Line {
+    let (value, fall) = if method == 0 {
+        (window - cost + 1, 0)
+    } else {
+        (tried - cost + 1, drop)
+    };
+    Line {
+        value,
+        fall,
+        lasts: u32::MAX,
+    }
+}
+
+/// The line of what another row adds to a row's move.
+fn line_of(own: &Move, method: u32, row: &[u32], bound: u32, drop: u32) -> Line {
+    let line = lower_of(own.capped, share_line(row, bound, drop, own.window));
+    if method == 0 {
+        return line;
+    }
+    let reach = own.tried + bound - row[0];
+    lower_of(line, work_line(row, reach, own.drop + drop))
+}
+
+/// The sum of what the other rows add to the move of the row at a place.
+fn sum_line(asked: Asked, place: usize, own: &Move, bounds: &[u32], drops: &[u32]) -> Line {
+    let mut sum = Line {
+        value: 0,
+        fall: 0,
+        lasts: u32::MAX,
+    };
+    for (other, row) in asked.words.chunks_exact(3).enumerate() {
+        if other != place {
+            let line = line_of(own, asked.method, row, bounds[other], drops[other]);
+            sum.value += line.value;
+            sum.fall += line.fall;
+            sum.lasts = sum.lasts.min(line.lasts);
+        }
+    }
+    sum
+}
+
 /// How many moves along the ray a row's own check passes, with each row's bound as it is now before the first.
 fn reach(asked: Asked, place: usize, bounds: &[u32], drops: &[u32]) -> u32 {
     let (cost, window) = (asked.words[3 * place], asked.words[3 * place + 1]);
-    let (bound, drop) = (bounds[place], drops[place]);
-    if bound - cost < drop {
+    let (above, drop) = (bounds[place] - cost, drops[place]);
+    if above < drop {
         return 0;
     }
-    let tried = bound - drop;
-    let cap = tried - cost + 1;
-    let capped = if asked.method == 0 {
-        Line {
-            value: window - cost + 1,
-            fall: 0,
-            lasts: u32::MAX,
-        }
-    } else {
-        Line {
-            value: cap,
-            fall: drop,
-            lasts: u32::MAX,
-        }
+    let tried = bounds[place] - drop;
+    let own = Move {
+        window,
+        tried,
+        drop,
+        capped: cap_line(asked.method, cost, window, tried, drop),
     };
-    let (mut sum, mut fall, mut lasts) = (0, 0, (tried - cost) / drop);
-    for (other, row) in asked.words.chunks_exact(3).enumerate() {
-        if other != place {
-            let share = share_line(row, bounds[other], drops[other], window);
-            let mut line = lower_of(capped, share);
-            if asked.method != 0 {
-                let ahead = bounds[other] - row[0];
-                line = lower_of(line, work_line(row, tried + ahead, drop + drops[other]));
-            }
-            sum += line.value;
-            fall += line.fall;
-            lasts = lasts.min(line.lasts);
-        }
-    }
-    if sum >= asked.processors * cap {
+    let sum = sum_line(asked, place, &own, bounds, drops);
+    let (due, due_fall) = (
+        asked.processors * (tried - cost + 1),
+        asked.processors * drop,
+    );
+    if sum.value >= due {
         return 0;
     }
-    if fall < asked.processors * drop {
-        lasts = lasts.min((asked.processors * cap - 1 - sum) / (asked.processors * drop - fall));
-    }
-    lasts + 1
+    let slack_lasts = if sum.fall < due_fall {
+        (due - 1 - sum.value) / (due_fall - sum.fall)
+    } else {
+        u32::MAX
+    };
+    slack_lasts.min(sum.lasts).min(above / drop - 1) + 1
 }
 
-/// Lowers each row along the ray by one move, in order, and gives the least reach; or the first row whose check fails.
+/// Lowers each row along the ray by one move, in order, and gives the least reach; or the first row whose check fails. Where no
+/// row moves, every reach is as good as another.
 fn first_move(asked: Asked, bounds: &mut [u32], drops: &[u32]) -> Result<u32, usize> {
     let mut least = u32::MAX;
     for place in 0..bounds.len() {
@@ -133,7 +169,6 @@ pub fn lower(asked: Asked, bounds: &mut [u32], drops: &mut [u32]) {
         moved.copy_from_slice(bounds);
         match first_move(asked, moved, drops) {
             Err(place) => drops[place] = 0,
-            Ok(u32::MAX) => return,
             Ok(moves) => {
                 for (bound, drop) in bounds.iter_mut().zip(drops) {
                     *bound -= moves * *drop;
