@@ -45,7 +45,8 @@ fn one_row(asked: Asked, place: usize, bounds: &[u32], others: &mut Others) -> u
     }
 }
 
-/// One turn of every row, each new bound used at once: the marks. How far each bound fell is written to the drops.
+/// One turn of every row, each new bound used at once: the marks. How far each bound fell is written to the drops; one that
+/// rises shows a ray that went too far, and breaks the run off.
 fn sweep(asked: Asked, bounds: &mut [u32], drops: &mut [u32], others: &mut Others) -> u64 {
     let mut marks = 0;
     for place in 0..bounds.len() {
@@ -53,7 +54,8 @@ fn sweep(asked: Asked, bounds: &mut [u32], drops: &mut [u32], others: &mut Other
         drops[place] = 0;
         if found != 0 {
             marks |= 1 << place;
-            drops[place] = bounds[place] - found;
+            let fallen = bounds[place].checked_sub(found);
+            drops[place] = fallen.expect("a bound that does not rise");
             bounds[place] = found;
         }
     }
