@@ -19,8 +19,12 @@ fn on_one(rows: Vec<Row>) -> Sheet {
 
 /// One of the slow families at or near full size.
 fn of_a_family(random: &mut Random) -> Sheet {
-    let step = random.within(1_000, 199_900);
-    let long = random.within(100_000, 1_000_000);
+    let (any_step, any_long) = (
+        random.within(1_000, 199_980),
+        random.within(100_000, 1_000_000),
+    );
+    let step = random.one_of(&[199_980, any_step]);
+    let long = random.one_of(&[1_000_000, any_long]);
     match random.below(9) {
         0 => on_one(climbing_pair(step)),
         1 => crowded_pair(step, 31, 62),
