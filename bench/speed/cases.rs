@@ -1,11 +1,13 @@
 //! What is measured: batches of questions, each with a name.
 
+use crate::slow::{pair, GROWING_STEPS};
 use second::random::Random;
 use second::rows::{words_of, Row};
-use sheets::{climbing_pair, exponential_row};
+use sheets::exponential_row;
+use sheets::families::never_decided;
 
 /// A question to an entry.
-#[derive(Clone)]
+#[derive(Clone, Debug)]
 pub enum Question {
     AtOnce {
         words: Vec<u32>,
@@ -30,7 +32,7 @@ pub struct Case {
 }
 
 /// The largest horizon.
-const HORIZON: u32 = 16_777_216;
+pub const HORIZON: u32 = 16_777_216;
 
 /// Sheets of so many rows as in the papers' experiment, with every number so many times as large, on as many processors as
 /// leave about three eighths of them free: then some rows are marked and some are not, and most sheets take several passes.
@@ -73,41 +75,10 @@ fn refined(name: String, count: usize, rows: usize, scale: u64) -> Case {
     }
 }
 
-/// The pair whose bounds fall by one, refined at once by RTA.
-fn climbing(step: u64) -> Case {
-    let words = words_of(&climbing_pair(step));
-    let name = format!(
-        "two rows, ({step},{},{}) and ({},{},{}), at once",
-        3 * step,
-        4 * step + 1,
-        2 * step,
-        5 * step + 1,
-        5 * step + 1
-    );
-    Case {
-        name,
-        questions: vec![Question::AtOnce {
-            words,
-            processors: 1,
-            method: 1,
-        }],
-    }
-}
-
-/// Five rows of utilisation exactly 1 whose periods have their common multiple past the largest horizon: never a miss, never
-/// a busy length within it.
-fn never_decided(horizon: u32) -> Case {
-    let parts = [(2, 11), (4, 13), (8, 17), (16, 19), (16, 23)];
-    let rows: Vec<Row> = parts
-        .iter()
-        .map(|&(part, scale)| Row {
-            cost: scale,
-            deadline: part * scale,
-            period: part * scale,
-        })
-        .collect();
+/// Rows that never miss and have no busy length up to a horizon.
+fn undecided(horizon: u32) -> Case {
     let question = Question::OneProcessor {
-        words: words_of(&rows),
+        words: words_of(&never_decided()),
         horizon,
     };
     Case {
@@ -206,11 +177,11 @@ pub fn against_rust() -> Vec<Case> {
         ),
         otherwise(at_once(16, 200), "16 random rows, RTA in rounds", true, 1),
         otherwise(at_once(64, 20), "64 random rows, BCL at once", false, 0),
-        climbing(50),
-        climbing(200),
+        pair(50),
+        pair(200),
         short_busy_length(),
         nearly_full(),
-        never_decided(HORIZON),
+        undecided(HORIZON),
     ]
 }
 
@@ -219,8 +190,8 @@ pub fn growing() -> Vec<(&'static str, Vec<Case>)> {
     let rows = [4, 8, 16, 32, 64].map(|rows| refined(format!("{rows} rows"), 20, rows, 1));
     let scales = [1, 10, 100, 500]
         .map(|scale| refined(format!("periods up to {}", 2000 * scale), 20, 8, scale));
-    let steps = [25, 50, 100, 200].map(climbing);
-    let horizons = [14, 16, 18, 20, 22, 24].map(|power| never_decided(1 << power));
+    let steps = GROWING_STEPS.map(pair);
+    let horizons = [14, 16, 18, 20, 22, 24].map(|power| undecided(1 << power));
     vec![
         ("RTA at once, random sheets, by rows", rows.into()),
         (

@@ -3,29 +3,36 @@
 //! speed          times and instructions of every case
 //! speed N SIDE   answers case N by a side once, for the instruction counter
 
+mod agreement;
 mod cases;
+mod clock;
 mod counting;
-mod fast;
+mod lengths;
 mod plain;
+mod quick;
 mod report;
 mod sides;
+mod slow;
 mod timing;
 
 use cases::Case;
 use sides::Side;
 
-/// Every case in one list: those against Rust, then those that grow.
+/// Every case whose instructions are counted, in one list: those against Rust, the slow families, and those that grow.
 fn all_cases() -> Vec<Case> {
     let growing = cases::growing().into_iter().flat_map(|(_, cases)| cases);
-    cases::against_rust().into_iter().chain(growing).collect()
+    cases::against_rust()
+        .into_iter()
+        .chain(slow::at_full_size())
+        .chain(growing)
+        .collect()
 }
 
 /// A side by its name.
 fn side_named(name: &str) -> Side {
     match name {
         "proved" => Side::Proved,
-        "rust" => Side::Rust,
-        _ => Side::Lengths,
+        _ => Side::Rust,
     }
 }
 

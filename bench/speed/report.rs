@@ -1,13 +1,21 @@
 //! The report: tables of ratios, and what bounds the cost.
 
+use crate::agreement::hold_together;
 use crate::cases::{against_rust, growing, Case, Question};
 use crate::counting::instructions;
 use crate::sides::{measured, Side};
-use crate::timing::ratio;
+use crate::slow::{against_plain, at_full_size};
+use crate::timing::{ratio, under_a_second};
 
-/// A number as a table shows it.
+/// Where `bench/climb --write` puts what it found.
+const CLIMBED: &str = "bench/speed/climbed.md";
+
+/// A number as a table shows it, with more digits where it is small.
 fn shown(number: Option<f64>) -> String {
-    number.map_or("".to_string(), |number| format!("{number:.2}"))
+    let digits = |number: f64| if number < 0.1 { 4 } else { 2 };
+    number.map_or("".to_string(), |number| {
+        format!("{number:.*}", digits(number))
+    })
 }
 
 /// Whether a case is of the one-processor test.
@@ -15,14 +23,15 @@ fn is_one_processor(case: &Case) -> bool {
     matches!(case.questions[0], Question::OneProcessor { .. })
 }
 
+/// Breaks off where another side answers a case otherwise than the proved program.
+fn hold_against(case: &Case, other: Side) {
+    let proved = measured(case, Side::Proved);
+    assert_eq!(proved, measured(case, other), "{}", case.name);
+}
+
 /// One case against Rust: time and instructions of the other side over the proved program's.
 fn against_rust_line(index: usize, case: &Case) -> String {
-    assert_eq!(
-        measured(case, Side::Proved),
-        measured(case, Side::Rust),
-        "{}",
-        case.name
-    );
+    hold_against(case, Side::Rust);
     let proved = instructions(index, "proved");
     let rust = instructions(index, "rust");
     let counted = proved.and_then(|proved| rust.map(|rust| rust / proved));
@@ -36,13 +45,31 @@ fn against_rust_line(index: usize, case: &Case) -> String {
 
 /// One case of the one-processor test against the length-by-length loop.
 fn against_lengths_line(case: &Case) -> String {
-    assert_eq!(
-        measured(case, Side::Proved),
-        measured(case, Side::Lengths),
-        "{}",
-        case.name
-    );
+    hold_against(case, Side::Lengths);
     format!("| {} | {:.1} |\n", case.name, ratio(case, Side::Lengths))
+}
+
+/// One slow case against the plain method.
+fn against_plain_line(case: &Case) -> String {
+    hold_against(case, Side::Plain);
+    format!("| {} | {:.1} |\n", case.name, ratio(case, Side::Plain))
+}
+
+/// One slow case at full size: time and instructions against the same method in Rust, the proved program's instructions in
+/// millions, and whether it takes less than a second.
+fn full_size_line(index: usize, case: &Case) -> String {
+    hold_against(case, Side::Rust);
+    let proved = instructions(index, "proved");
+    let rust = instructions(index, "rust");
+    let counted = proved.and_then(|proved| rust.map(|rust| rust / proved));
+    format!(
+        "| {} | {:.2} | {} | {} | {} |\n",
+        case.name,
+        ratio(case, Side::Rust),
+        shown(counted),
+        shown(proved),
+        if under_a_second(case) { "yes" } else { "no" }
+    )
 }
 
 /// A table of cases that grow: instructions in millions, and how many times the line above.
@@ -71,8 +98,32 @@ fn told(part: String) -> String {
     part
 }
 
+/// The section on the slow families, whose first case has a number.
+fn slow_section(first: usize) -> String {
+    let mut text = include_str!("slow.md").to_string();
+    for case in against_plain() {
+        text += &told(against_plain_line(&case));
+    }
+    text += include_str!("full_size.md");
+    for (offset, case) in at_full_size().iter().enumerate() {
+        text += &told(full_size_line(first + offset, case));
+    }
+    text + &std::fs::read_to_string(CLIMBED).unwrap_or_default()
+}
+
+/// The section on how cost grows, whose first case has a number.
+fn growth_section(mut first: usize) -> String {
+    let mut text = include_str!("growth.md").to_string();
+    for (title, cases) in growing() {
+        text += &told(growth_table(first, title, &cases));
+        first += cases.len();
+    }
+    text
+}
+
 /// The whole report.
 pub fn report() -> String {
+    hold_together();
     let cases = against_rust();
     let mut text = include_str!("head.md").to_string();
     for (index, case) in cases.iter().enumerate() {
@@ -82,11 +133,7 @@ pub fn report() -> String {
     for case in cases.iter().filter(|case| is_one_processor(case)) {
         text += &told(against_lengths_line(case));
     }
-    text += include_str!("growth.md");
-    let mut first = cases.len();
-    for (title, cases) in growing() {
-        text += &told(growth_table(first, title, &cases));
-        first += cases.len();
-    }
+    text += &slow_section(cases.len());
+    text += &growth_section(cases.len() + at_full_size().len());
     text + include_str!("bounds.md")
 }

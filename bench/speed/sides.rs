@@ -1,7 +1,7 @@
 //! The sides that answer a question, and a checksum of what they answer.
 
 use crate::cases::{Case, Question};
-use crate::{fast, plain};
+use crate::{lengths, plain, quick};
 
 /// Who answers.
 #[derive(Clone, Copy, PartialEq, Eq, Debug)]
@@ -10,6 +10,8 @@ pub enum Side {
     Proved,
     /// The same method in Rust.
     Rust,
+    /// The plain method in Rust.
+    Plain,
     /// The length-by-length loop in Rust, for the one-processor test only.
     Lengths,
 }
@@ -27,47 +29,48 @@ fn refined(refine: Refine, words: &[u32], processors: u32, method: u32) -> u64 {
     })
 }
 
+/// The at-once engine of a side.
+fn at_once(side: Side) -> Refine {
+    match side {
+        Side::Proved => guarded::refine_at_once,
+        Side::Rust => quick::refine_at_once,
+        Side::Plain | Side::Lengths => plain::refine_at_once,
+    }
+}
+
+/// The rounds engine of a side: its method is the plain one everywhere.
+fn rounds(side: Side) -> Refine {
+    match side {
+        Side::Proved => guarded::refine_rounds,
+        Side::Rust | Side::Plain | Side::Lengths => plain::refine_rounds,
+    }
+}
+
+/// The one-processor test of a side.
+fn one_processor(side: Side) -> fn(&[u32], u32) -> (u32, u32) {
+    match side {
+        Side::Proved => guarded::one_processor,
+        Side::Rust => quick::one_processor,
+        Side::Plain => plain::one_processor,
+        Side::Lengths => lengths::one_processor,
+    }
+}
+
 /// One question answered by a side.
-fn answered(question: &Question, side: Side) -> u64 {
-    match (question, side) {
-        (
-            Question::AtOnce {
-                words,
-                processors,
-                method,
-            },
-            Side::Proved,
-        ) => refined(guarded::refine_at_once, words, *processors, *method),
-        (
-            Question::AtOnce {
-                words,
-                processors,
-                method,
-            },
-            _,
-        ) => refined(fast::refine_at_once, words, *processors, *method),
-        (
-            Question::Rounds {
-                words,
-                processors,
-                method,
-            },
-            Side::Proved,
-        ) => refined(guarded::refine_rounds, words, *processors, *method),
-        (
-            Question::Rounds {
-                words,
-                processors,
-                method,
-            },
-            _,
-        ) => refined(fast::refine_rounds, words, *processors, *method),
-        (Question::OneProcessor { words, horizon }, side) => {
-            let (outcome, length) = match side {
-                Side::Proved => guarded::one_processor(words, *horizon),
-                Side::Rust => fast::one_processor(words, *horizon),
-                Side::Lengths => plain::one_processor(words, *horizon),
-            };
+pub fn answered(question: &Question, side: Side) -> u64 {
+    match question {
+        Question::AtOnce {
+            words,
+            processors,
+            method,
+        } => refined(at_once(side), words, *processors, *method),
+        Question::Rounds {
+            words,
+            processors,
+            method,
+        } => refined(rounds(side), words, *processors, *method),
+        Question::OneProcessor { words, horizon } => {
+            let (outcome, length) = one_processor(side)(words, *horizon);
             outcome as u64 * 100_000_000 + length as u64
         }
     }

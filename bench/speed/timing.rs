@@ -1,6 +1,7 @@
 //! Times as ratios: sides take turns, and the least processor time of each counts.
 
 use crate::cases::Case;
+use crate::clock::used;
 use crate::sides::{measured, Side};
 use std::hint::black_box;
 use std::time::Duration;
@@ -13,31 +14,6 @@ const LONG: Duration = Duration::from_secs(3);
 
 /// The least that a turn takes.
 const TURN: Duration = Duration::from_millis(8);
-
-/// Seconds and nanoseconds as the operating system gives them.
-#[repr(C)]
-struct Instant {
-    seconds: i64,
-    nanoseconds: i64,
-}
-
-extern "C" {
-    fn clock_gettime(clock: i32, instant: *mut Instant) -> i32;
-}
-
-/// The clock that runs only while this thread does, so that other work on the machine counts little.
-const OF_THIS_THREAD: i32 = 3;
-
-/// The processor time that this thread has used.
-fn used() -> Duration {
-    let mut now = Instant {
-        seconds: 0,
-        nanoseconds: 0,
-    };
-    // SAFETY: the pointer is to a struct of the layout that the function fills.
-    unsafe { clock_gettime(OF_THIS_THREAD, &mut now) };
-    Duration::new(now.seconds as u64, now.nanoseconds as u32)
-}
 
 /// The processor time of so many runs.
 fn time(case: &Case, side: Side, runs: u32) -> Duration {
@@ -52,6 +28,11 @@ fn time(case: &Case, side: Side, runs: u32) -> Duration {
 fn runs_in_a_turn(case: &Case, side: Side) -> u32 {
     let once = time(case, side, 1);
     (TURN.as_nanos() / once.as_nanos().max(1)).clamp(1, 1_000_000) as u32
+}
+
+/// Whether the proved program answers a case within a second of processor time.
+pub fn under_a_second(case: &Case) -> bool {
+    time(case, Side::Proved, 1) < Duration::from_secs(1)
 }
 
 /// The other side's least time over the proved program's: above 1 the proved program is the quicker one.

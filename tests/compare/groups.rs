@@ -59,13 +59,15 @@ fn checks_of_kind(kind: Kind) -> usize {
         Kind::Tiny => 80,
         Kind::Middle | Kind::Full | Kind::Counts => 20,
         Kind::Climbing => 10,
+        Kind::Slow => 8,
         Kind::Edges | Kind::Exponential => 5,
-        Kind::Light | Kind::Heavy => 3,
+        Kind::Light | Kind::Heavy | Kind::Large => 3,
         Kind::Far => 1,
     }
 }
 
-/// The checks of an entry on a kind in a round. Large numbers of all sorts are not refined: two rows of them can take an hour.
+/// The checks of an entry on a kind in a round. Rows that leave one processor busy for long are not refined: value by value, two
+/// of them can take days.
 fn checks_of_entry(entry: Entry, kind: Kind) -> usize {
     match kind {
         Kind::Far if refines(entry) => 0,
@@ -97,7 +99,7 @@ pub fn relation_groups() -> Vec<Group> {
     let mut groups = Vec::new();
     for relation in RELATIONS {
         for &kind in relation.kinds {
-            let checks = checks_of_kind(kind).div_ceil(4);
+            let checks = relation.times * checks_of_kind(kind).div_ceil(4);
             groups.push(Group {
                 entry: Entry::RefineAtOnce,
                 kind,

@@ -15,6 +15,7 @@ mod run;
 mod show;
 mod shrink;
 mod sightings;
+mod slow;
 mod spoil;
 mod worked;
 mod wrong;
@@ -26,7 +27,7 @@ use std::process::ExitCode;
 use std::sync::atomic::Ordering;
 
 /// How many checks the gate makes.
-const GATE_CASES: u64 = 320_000;
+const GATE_CASES: u64 = 485_000;
 
 /// The gate's seed.
 const GATE_SEED: u64 = 1;
@@ -71,7 +72,8 @@ fn one_group(what: &str, found: Vec<String>) -> (usize, usize) {
     }
 }
 
-/// Everything compared: the numbers worked by hand, every text near a sheet's, random calls, and that all kinds of answer were met.
+/// Everything compared: the numbers worked by hand, every text near a sheet's, random calls, and that all kinds of answer were
+/// met and slow sheets are slow.
 fn compare_all(cases: u64, seed: u64) -> (usize, usize) {
     let all = [groups::answer_groups(), groups::relation_groups()].concat();
     let near = |entry: Entry| near::first_difference(entry).into_iter().collect();
@@ -84,6 +86,7 @@ fn compare_all(cases: u64, seed: u64) -> (usize, usize) {
         one_group("DIFFERENCE", near(Entry::AnswerSheet)),
         run::compare(&all, rounds::how_many(&all, cases), seed),
         one_group("NEVER MET", sightings::never_met()),
+        one_group("TOO QUICK", slow::too_quick(seed).into_iter().collect()),
     ];
     println!("{} calls, seed {seed}", CALLS.load(Ordering::Relaxed));
     let sum = |one: (usize, usize), other: &(usize, usize)| (one.0 + other.0, one.1 + other.1);

@@ -9,11 +9,13 @@ use second::random::Random;
 use second::rows::Sheet;
 use sheets::Kind;
 
-/// A relation: its name, the kinds of sheet it is tried on, and the test, which tells what is wrong where something is.
+/// A relation: its name, the kinds of sheet it is tried on, how many times as often as most, and the test, which tells what is
+/// wrong where something is.
 #[derive(Clone, Copy)]
 pub struct Relation {
     pub name: &'static str,
     pub kinds: &'static [Kind],
+    pub times: usize,
     pub broken: fn(&Call, &mut Random) -> Option<String>,
 }
 
@@ -26,48 +28,61 @@ const QUICK: &[Kind] = &[
     Kind::Exponential,
     Kind::Climbing,
     Kind::Full,
+    Kind::Slow,
+    Kind::Large,
 ];
+
+/// How many times as often the engines are held together: 100,000 checks and more in the gate's run.
+const OFTEN: usize = 25;
 
 /// Every relation.
 pub const RELATIONS: [Relation; 8] = [
     Relation {
         name: "both engines end at the same bounds and marks",
         kinds: QUICK,
+        times: OFTEN,
         broken: engines_differ,
     },
     Relation {
         name: "RTA is never above BCL and marks what BCL marks",
         kinds: QUICK,
+        times: 1,
         broken: rta_above_bcl,
     },
     Relation {
         name: "every final bound is its row's own answer",
         kinds: QUICK,
+        times: 1,
         broken: not_consistent,
     },
     Relation {
         name: "the end is the largest of all consistent sets",
         kinds: &[Kind::Tiny],
+        times: 1,
         broken: not_largest,
     },
     Relation {
         name: "the order of rows changes nothing",
         kinds: QUICK,
+        times: 1,
         broken: order_matters,
     },
     Relation {
         name: "a processor more is never worse",
         kinds: QUICK,
+        times: 1,
         broken: processor_hurts,
     },
     Relation {
         name: "a sheet written and read is the same",
         kinds: QUICK,
+        times: 1,
         broken: not_back,
     },
     Relation {
         name: "the whole answer is reading and then the result sheet",
         kinds: QUICK,
+        times: 1,
         broken: answer_apart,
     },
 ];

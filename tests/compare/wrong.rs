@@ -4,6 +4,7 @@
 mod analysis;
 mod checks;
 mod demand;
+mod quick;
 mod text;
 
 use second::program::{Program, DOCUMENT};
@@ -27,6 +28,7 @@ pub fn wrong_programs() -> Vec<Wrong> {
     let slips = [
         &analysis::SLIPS[..],
         &demand::SLIPS,
+        &quick::SLIPS,
         &text::SLIPS,
         &checks::SLIPS,
     ];

@@ -6,4 +6,4 @@ mod made;
 mod plain;
 
 pub use made::{made, Seen, CALLS};
-pub use plain::{one_processor, refine_at_once, refine_rounds};
+pub use plain::{one_processor, refine_at_once, refine_rounds, write_result};

@@ -34,6 +34,22 @@ pub fn refine_rounds(words: &[u32], processors: u32, method: u32, bounds: &mut [
     }
 }
 
+/// The result sheet of rows: its length; the bytes are written to those lent.
+pub fn write_result(words: &[u32], processors: u32, method: u32, out: &mut [u8]) -> u32 {
+    // SAFETY: the pointers and lengths are those of slices.
+    unsafe {
+        circuitrail_write_result(
+            words.as_ptr(),
+            words.len(),
+            processors,
+            method,
+            out.as_mut_ptr(),
+            out.len(),
+        )
+        .last
+    }
+}
+
 /// The exact test for one processor: its outcome and length.
 pub fn one_processor(words: &[u32], horizon: u32) -> (u32, u32) {
     // SAFETY: the pointer and length are those of a slice.

@@ -48,6 +48,29 @@ pub fn bcl(program: &Program, sheet: &Sheet, asked: usize, bounds: &[u64]) -> Op
     (value <= row.deadline).then_some(value)
 }
 
+/// RTA's right side for the row at a place, as a function of the value tried.
+pub fn right_side(
+    program: &Program,
+    sheet: &Sheet,
+    asked: usize,
+    bounds: &[u64],
+) -> impl Fn(u64) -> u64 {
+    let (program, processors, row) = (*program, sheet.processors, sheet.rows[asked]);
+    let others = others_of(&program, sheet, asked, bounds);
+    move |tried: u64| {
+        let cap = (program.rta_cap)(row, tried);
+        let term = |other: &Other| {
+            (program.rta_term)(
+                (program.work)(other.row, other.bound, tried),
+                other.share,
+                cap,
+            )
+        };
+        let sum = others.iter().map(term).sum();
+        row.cost + (program.divided)(sum, processors)
+    }
+}
+
 /// The values from the asked row's cost up to its deadline that equal their own right side, each tried as it is asked for.
 pub fn solutions(
     program: &Program,
@@ -55,21 +78,9 @@ pub fn solutions(
     asked: usize,
     bounds: &[u64],
 ) -> impl DoubleEndedIterator<Item = u64> {
-    let (program, processors, row) = (*program, sheet.processors, sheet.rows[asked]);
-    let others = others_of(&program, sheet, asked, bounds);
-    let solves = move |tried: &u64| {
-        let cap = (program.rta_cap)(row, *tried);
-        let term = |other: &Other| {
-            (program.rta_term)(
-                (program.work)(other.row, other.bound, *tried),
-                other.share,
-                cap,
-            )
-        };
-        let sum = others.iter().map(term).sum();
-        *tried == row.cost + (program.divided)(sum, processors)
-    };
-    (row.cost..=row.deadline).filter(solves)
+    let row = sheet.rows[asked];
+    let right_side = right_side(program, sheet, asked, bounds);
+    (row.cost..=row.deadline).filter(move |&tried| tried == right_side(tried))
 }
 
 /// RTA's answer for the row at a place: the least solution.

@@ -1,6 +1,6 @@
 //! The kinds of sheets.
 
-use crate::shapes;
+use crate::{shapes, slow};
 use second::random::Random;
 use second::rows::Sheet;
 
@@ -27,10 +27,14 @@ pub enum Kind {
     Far,
     /// 0, 1, 63, 64, 65, 66, 128 or 255 rows.
     Counts,
+    /// The families that keep a plain method busy for long, at small sizes, with twins and small changes.
+    Slow,
+    /// A few rows of large numbers of all sorts, refined in few passes.
+    Large,
 }
 
 /// Every kind.
-pub const KINDS: [Kind; 10] = [
+pub const KINDS: [Kind; 12] = [
     Kind::Tiny,
     Kind::Middle,
     Kind::Edges,
@@ -41,6 +45,8 @@ pub const KINDS: [Kind; 10] = [
     Kind::Full,
     Kind::Far,
     Kind::Counts,
+    Kind::Slow,
+    Kind::Large,
 ];
 
 /// A random sheet of a kind.
@@ -56,5 +62,7 @@ pub fn sheet(kind: Kind, random: &mut Random) -> Sheet {
         Kind::Full => shapes::full(random),
         Kind::Far => shapes::far(random),
         Kind::Counts => shapes::counts(random),
+        Kind::Slow => slow::slow(random),
+        Kind::Large => slow::large(random),
     }
 }

@@ -1,5 +1,6 @@
 //! How a sheet of each kind is drawn.
 
+use crate::families::climbing_pair;
 use second::random::Random;
 use second::rows::{Row, Sheet};
 
@@ -161,22 +162,6 @@ pub fn exponential(random: &mut Random) -> Sheet {
     let count = random.within(processors + 1, 2 * processors + 4);
     let rows = (0..count).map(|_| exponential_row(random, mean)).collect();
     Sheet { rows, processors }
-}
-
-/// Two rows whose bounds on one processor fall by one over about three times the step squared evaluations.
-pub fn climbing_pair(step: u64) -> Vec<Row> {
-    vec![
-        Row {
-            cost: step,
-            deadline: 3 * step,
-            period: 4 * step + 1,
-        },
-        Row {
-            cost: 2 * step,
-            deadline: 5 * step + 1,
-            period: 5 * step + 1,
-        },
-    ]
 }
 
 /// The climbing pair in either order, at times with small rows beside it.

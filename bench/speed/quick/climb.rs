@@ -1,0 +1,67 @@
+//! The climb to RTA's answer, by jumps over values that cannot be solutions.
+
+use super::others::Others;
+
+/// After every so many steps of a climb the chord is tried too.
+const STEPS_TO_A_CHORD: u32 = 16;
+
+/// The shortest stretch that the chord is tried over.
+const SHORTEST_CHORD: u32 = 64;
+
+/// A stretch behind the value tried that holds no solution: the longest that the rooms show, by Newton's rule from the longest
+/// there may be down. The sum is over what it may be by so much.
+fn jump(others: &Others, over: u32, processors: u32, longest: u32) -> u32 {
+    let mut stretch = longest;
+    loop {
+        let (ending, rising) = others.rises(stretch);
+        if rising >= processors || over + ending >= (processors - rising) * stretch {
+            return stretch;
+        }
+        stretch = (over + ending) / (processors - rising);
+    }
+}
+
+/// A long stretch behind the value tried that holds no solution, as lines below the other rows' work show where they exclude
+/// both its ends; 0 where they show none.
+fn chord(others: &Others, processors: u32, cost: u32, tried: u32, longest: u32) -> u32 {
+    let slopes = others.slopes();
+    let excluded = |value: u32| {
+        let cap = value - cost + 1;
+        others.least_sum(&slopes, value, cap) >= ((processors * cap) as u64) << 32
+    };
+    if !excluded(tried) {
+        return 0;
+    }
+    let mut stretch = longest;
+    while stretch >= SHORTEST_CHORD {
+        if excluded(tried + stretch) {
+            return stretch;
+        }
+        stretch /= 2;
+    }
+    0
+}
+
+/// RTA's answer: the least value that the other rows leave enough of; 0 where there is none up to the deadline.
+pub fn least_solution(others: &mut Others, processors: u32, cost: u32, deadline: u32) -> u32 {
+    let (mut tried, mut steps) = (cost, 0);
+    others.begin(cost);
+    loop {
+        let cap = tried - cost + 1;
+        let sum = others.sum(cap);
+        if sum < processors * cap {
+            return tried;
+        }
+        let longest = deadline - tried;
+        let mut stretch = jump(others, sum - processors * cap, processors, longest);
+        steps += 1;
+        if steps % STEPS_TO_A_CHORD == 0 {
+            stretch = stretch.max(chord(others, processors, cost, tried, longest));
+        }
+        if stretch == longest {
+            return 0;
+        }
+        tried += stretch + 1;
+        others.advance(stretch + 1);
+    }
+}
