@@ -56,9 +56,10 @@ pub(crate) fn term_and_room(
     let share = taken[other as usize];
     let most = lesser(share, cap);
     if share <= 1 {
+        let left = share - most;
         return Rise {
             term: most,
-            room: share - most,
+            room: left,
         };
     }
     let at = 3 * (other as usize);

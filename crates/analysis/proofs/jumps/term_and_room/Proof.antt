@@ -24,8 +24,8 @@ shared-slice-read-share c = search needs
 lesser-requires : tie.Need-lesser-requires
 lesser-requires c κs = search needs
 
-sub-t22 : tie.Need-sub-t22
-sub-t22 c = search needs
+sub-left : tie.Need-sub-left
+sub-left c = search needs
 
 returns : tie.Need-returns
 returns c =
@@ -118,7 +118,7 @@ term-and-room-spec =
     mul-share
     shared-slice-read-share
     lesser-requires
-    sub-t22
+    sub-left
     returns
     mul-at
     add-second
