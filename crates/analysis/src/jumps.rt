@@ -101,26 +101,30 @@ pub(crate) fn fill_rooms(
     sum
 }
 
+// 1 where a room lets one through at every step, else 0.
+pub(crate) fn lets_all(room: u32, far: u32) -> u32
+    ensures { λ r. ⌜ (r ≤ 1) × (r * far ≤ min far room) ⌝ }
+{
+    if room < far { 0 } else { 1 }
+}
+
 // How much all rooms let through in so many steps: the small ones wholly, of the others one a step.
 pub(crate) fn split_rooms(room: &[u32], count: u32, far: u32) -> Split
     requires { ⌜ Rooms (now room) count ⌝ }
     ensures exact { λ r. ⌜ (r .full) + (r .wide) * far ≡ total (λ i. min far (getD (now (room .entry)) i 0)) count ⌝ }
     ensures fits { λ r. ⌜ ((r .full) ≤ 64_000_000) × ((r .wide) ≤ 64) ⌝ }
 {
-    let mut full = 0;
+    let mut sum = 0;
     let mut wide = 0;
     let mut other = 0;
     while other < count {
         let here = room[other as usize];
-        if here < far {
-            full += here;
-        } else {
-            wide += 1;
-        }
+        sum += lesser(far, here);
+        wide += lets_all(here, far);
         other += 1;
     }
     Split {
-        full: full,
+        full: sum - wide * far,
         wide: wide,
     }
 }

@@ -1,30 +1,30 @@
--- `split_rooms` adds each room to the whole ones or counts it: either way it has added what the room lets through.
+-- `split_rooms` adds what each room lets through, and counts the rooms that let all through, which is no more than was added.
 use borrow.Author.Needs.{needs}
+use native.Mathlib.Omega.{arith}
 use mathlib.Core.Path.{_≡_, _∙_, ap}
 use native.Mathlib.Nat.{zero-mul, add-mul}
-use mathlib.Core.Logic.{_⊎_, ⊎-elim, inl, inr}
 use Prim.Native.Nat.{ℕ, _+_, _*_, _-_, _≤_, _<_, min}
 use lib.ListN.{getD}
 use denote.Ref.{now}
 use Rattle.laws.specs.Sum.{total}
 use Rattle.laws.proofs.Sum.{total-step}
-use native.Mathlib.Omega.{arith}
 use Rattle.analysis.proofs.jumps.split_rooms.Statement.{statement}
 use Rattle.analysis.proofs.jumps.split_rooms.Tie as tie
 
 abbrev Inv-loop : tie.InvT-loop
-Inv-loop room count far full₀ wide₀ other₀ full wide other =
+Inv-loop room count far sum₀ wide₀ other₀ sum wide other =
     (other ≤ count)
-    × (full + wide * far ≡ total (λ i. min far (getD room i 0)) other)
-    × (full ≤ other * 1_000_000)
+    × (sum ≡ total (λ i. min far (getD room i 0)) other)
+    × (sum ≤ other * 1_000_000)
     × (wide ≤ other)
+    × (wide * far ≤ sum)
 
 abbrev μ-loop : tie.MeasureT-loop
-μ-loop room count far full₀ wide₀ other₀ full wide other = count - other
+μ-loop room count far sum₀ wide₀ other₀ sum wide other = count - other
 
 loop-holds : tie.Need-loop-holds Inv-loop μ-loop
 unfolding total
-loop-holds c = (omega arith, omega (arith, zero-mul (c .args .far)), omega arith, omega arith)
+loop-holds c = (omega arith, omega arith, omega arith, omega arith, omega (arith, zero-mul (c .before .args .far)))
 
 cast-here : tie.Need-cast-here Inv-loop μ-loop
 cast-here c = search needs
@@ -35,15 +35,21 @@ mul-here c = search needs
 shared-slice-read-here : tie.Need-shared-slice-read-here Inv-loop μ-loop
 shared-slice-read-here c = search needs
 
-add-full : tie.Need-add-full Inv-loop μ-loop
-add-full c =
-    let p = c .before .before .before .before in
+lesser-requires : tie.Need-lesser-requires Inv-loop μ-loop
+lesser-requires c κs = search needs
+
+add-sum : tie.Need-add-sum Inv-loop μ-loop
+add-sum c =
+    let p = c .before .before .before .before .before in
     let other = c .before .before .before .loop .other in
     let small : getD (now (p .args .room)) other 0 ≤ 1_000_000 = p .pre .small other (omega arith) in
-    omega (arith, p .pre .few)
+    omega (arith, p .pre .few, c .lesser .ensures, c .before .before .before .loop .inv .2)
+
+lets-all-requires : tie.Need-lets-all-requires Inv-loop μ-loop
+lets-all-requires c κs = search needs
 
 add-wide : tie.Need-add-wide Inv-loop μ-loop
-add-wide c = omega (arith, c .before .before .before .before .pre .few)
+add-wide c = omega (arith, c .before .before .before .before .before .before .pre .few, c .lets-all .ensures .0, c .before .before .before .before .loop .inv .3)
 
 add-other : tie.Need-add-other Inv-loop μ-loop
 add-other c = search needs
@@ -51,29 +57,33 @@ add-other c = search needs
 loop-less : tie.Need-loop-less Inv-loop μ-loop
 loop-less c = search needs
 
--- One room more: whole where it is small, else counted.
-one-more : (full wide far here full′ wide′ : ℕ)
-    → (((here < far) × (full′ ≡ full + here) × (wide′ ≡ wide)) ⊎ ((far ≤ here) × (full′ ≡ full) × (wide′ ≡ wide + 1)))
-    → (full′ + wide′ * far ≡ full + wide * far + min far here) × (full′ ≤ full + here) × (wide′ ≤ wide + 1)
-one-more full wide far here full′ wide′ (inl w) = rw (w .2) (omega (arith, w .0, w .1))
-one-more full wide far here full′ wide′ (inr w) = rw (w .2) (omega (arith, w .0, w .1, add-mul wide 1 far))
-
 loop-again : tie.Need-loop-again Inv-loop μ-loop
 loop-again c =
-    let p = c .before .before .before .before in
-    let q = c .before .before .before .loop in
-    let here = getD (now (p .args .room)) (q .other) 0 in
-    let small : here ≤ 1_000_000 = p .pre .small (q .other) (omega arith) in
-    let more = one-more (q .full) (q .wide) (p .args .far) here (c .if1 .full) (c .if1 .wide)
-    (⊎-elim (λ w. inl (w .0 .taken, w .1, w .2)) (λ w. inr (w .0 .left, w .1, w .2)) (c .if1 .came)) in
-    (omega arith, omega (arith, more .0, q .inv .1, total-step (λ i. min (p .args .far) (getD (now (p .args .room)) i 0)) (q .other)), omega (arith, more .1), omega (arith, more .2))
+    let p = c .before .before .before .before .before .before in
+    let q = c .before .before .before .before .loop in
+    let added = c .before .lesser .ensures in
+    let all = c .lets-all .ensures in
+    let small : getD (now (p .args .room)) (q .other) 0 ≤ 1_000_000 = p .pre .small (q .other) (omega arith) in (
+      omega arith,
+      omega (arith, added, q .inv .1, total-step (λ i. min (p .args .far) (getD (now (p .args .room)) i 0)) (q .other)),
+      omega (arith, added, q .inv .2),
+      omega (arith, all .0, q .inv .3),
+      omega (arith, added, all .1, q .inv .4, add-mul (q .wide) (c .lets-all .result) (p .args .far)),
+    )
+
+mul-t13 : tie.Need-mul-t13 Inv-loop μ-loop
+mul-t13 c = let q = c .before .loop in omega (arith, q .inv .4, q .inv .2, q .inv .0, c .before .before .before .pre .few)
+
+sub-t14 : tie.Need-sub-t14 Inv-loop μ-loop
+sub-t14 c = c .before .loop .inv .4
 
 returns : tie.Need-returns Inv-loop μ-loop
 returns c =
-    let p = c .before .before in
+    let p = c .before .before .before in
     let q = c .before .loop in
     let done : q .other ≡ p .args .count = omega arith in
-    (q .inv .1 ∙ ap (total _) done, (omega (arith, p .pre .few), omega (arith, p .pre .few)))
+    let whole : q .sum - q .wide * p .args .far + q .wide * p .args .far ≡ q .sum = omega (arith, q .inv .4) in
+    (whole ∙ q .inv .1 ∙ ap (total _) done, (omega (arith, p .pre .few, q .inv .2), omega (arith, p .pre .few, q .inv .3)))
 
 pub split-rooms-spec : {M : Type 1} → statement M
 split-rooms-spec =
@@ -85,9 +95,13 @@ split-rooms-spec =
     cast-here
     mul-here
     shared-slice-read-here
-    add-full
+    lesser-requires
+    add-sum
+    lets-all-requires
     add-wide
     add-other
     loop-less
     loop-again
+    mul-t13
+    sub-t14
     returns)
