@@ -1,5 +1,6 @@
 // Passes over all rows, and the two engines that repeat them until one changes nothing.
 use crate::ray::hasten;
+use crate::ray::note_drops;
 use crate::response::answer_quickly;
 use crate::response::answer_row;
 use rows::Found;
@@ -174,23 +175,25 @@ pub(crate) fn settle_rounds(
 pub(crate) fn settle_at_once(
     words: &[u32],
     bounds: &mut [u32],
+    before: &mut [u32],
     drops: &mut [u32],
     processors: u32,
     method: u32,
     count: u32,
 ) -> u64
-    requires { ⌜ Ready (now words) (now bounds) × (count ≡ rowCount (now words)) × (1 ≤ processors) × Held (sheetOf (now words)) (askOf (now words) processors method) (now bounds) × (length (now drops) ≡ count) × (processors ≤ 64) ⌝ }
+    requires { ⌜ Ready (now words) (now bounds) × (count ≡ rowCount (now words)) × (1 ≤ processors) × Held (sheetOf (now words)) (askOf (now words) processors method) (now bounds) × (length (now before) ≡ count) × (length (now drops) ≡ count) × (processors ≤ 64) ⌝ }
     ensures seen { λ r. ⌜ r ≡ marks (sheetOf (now (words .entry))) (askOf (now (words .entry)) processors method) (atOnce (sheetOf (now (words .entry))) (askOf (now (words .entry)) processors method)) ⌝ }
     ensures settled { λ r. ⌜ now (bounds .exit) ≡ atOnce (sheetOf (now (words .entry))) (askOf (now (words .entry)) processors method) ⌝ }
 {
     let mut sweeps = 0;
     loop {
-        copy_back(bounds, drops, count);
+        copy_back(bounds, before, count);
         let outcome = sweep_rows(words, bounds, processors, method, count);
         let moved = outcome.moved;
         if !moved {
             return outcome.seen;
         }
+        note_drops(words, bounds, before, drops, count, sweeps);
         sweeps = (sweeps + 1) % 4;
         hasten(words, bounds, drops, processors, method, count, sweeps);
     }
@@ -227,7 +230,16 @@ pub(crate) fn run_at_once(
     ensures settled { λ r. ⌜ now (bounds .exit) ≡ atOnce (sheetOf (now (words .entry))) (askOf (now (words .entry)) processors method) ⌝ }
 {
     fill_deadlines(words, bounds, count);
+    let mut before = [0u32; 64];
     let mut drops = [0u32; 64];
     let end = count as usize;
-    settle_at_once(words, bounds, &mut drops[..end], processors, method, count)
+    settle_at_once(
+        words,
+        bounds,
+        &mut before[..end],
+        &mut drops[..end],
+        processors,
+        method,
+        count,
+    )
 }

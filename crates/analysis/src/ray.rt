@@ -7,7 +7,6 @@ use numbers::lesser;
 ghost use mathlib.Core.Path.{_≡_};
 ghost use Prim.Native.Nat.{ℕ, _+_, _*_, _-_, _≤_, _<_};
 ghost use lib.ListN.{length, getD};
-ghost use Rattle.laws.specs.Fill.{Below};
 ghost use Rattle.model.specs.Answer.{methodOf};
 ghost use Rattle.model.specs.Interference.{share, carried};
 ghost use Rattle.model.specs.Ray.{along};
@@ -354,23 +353,42 @@ pub(crate) fn step_down(bounds: &mut [u32], drops: &[u32], count: u32, steps: u3
     }
 }
 
-// A guess at a row's next drop: its last one, or none where that would lead below its cost.
-pub(crate) fn next_drop(before: u32, bound: u32, cost: u32) -> u32
+// A guess at a row's next drop: the least of its drops since the last ray, or none where that would lead below its cost.
+pub(crate) fn next_drop(seen: u32, before: u32, bound: u32, cost: u32, sweeps: u32) -> u32
     ensures { λ r. ⌜ r ≤ bound ⌝ }
 {
-    let drop = less(before, bound);
+    let last = less(before, bound);
+    let drop = if sweeps == 0 {
+        last
+    } else {
+        lesser(seen, last)
+    };
     if less(bound, cost) < drop { 0 } else { drop }
 }
 
-// Guesses every row's next drop, from the bounds before the last sweep, which are overwritten.
-pub(crate) fn fill_drops(words: &[u32], bounds: &[u32], drops: &mut [u32], count: u32)
-    requires { ⌜ Ready (now words) (now bounds) × (count ≡ rowCount (now words)) × (length (now drops) ≡ count) ⌝ }
+// Guesses every row's next drop after a sweep, from the bounds before it.
+pub(crate) fn note_drops(
+    words: &[u32],
+    bounds: &[u32],
+    before: &[u32],
+    drops: &mut [u32],
+    count: u32,
+    sweeps: u32,
+)
+    requires { ⌜ Ready (now words) (now bounds) × (count ≡ rowCount (now words)) × (length (now drops) ≡ count) × (length (now before) ≡ count) ⌝ }
     ensures { λ r. ⌜ Small (rowCount (now (words .entry))) (now (drops .exit)) ⌝ }
 {
     let mut row = 0;
     while row < count {
         let at = 3 * (row as usize);
-        drops[row as usize] = next_drop(drops[row as usize], bounds[row as usize], words[at]);
+        let place = row as usize;
+        drops[place] = next_drop(
+            drops[place],
+            before[place],
+            bounds[place],
+            words[at],
+            sweeps,
+        );
         row += 1;
     }
 }
@@ -415,7 +433,7 @@ pub(crate) fn descend(
     }
 }
 
-// Where the count of sweeps is 0 again, the last drops are followed down; else nothing is done.
+// Where the count of sweeps is 0 again, the drops noted are followed down; else nothing is done.
 pub(crate) fn hasten(
     words: &[u32],
     bounds: &mut [u32],
@@ -425,13 +443,11 @@ pub(crate) fn hasten(
     count: u32,
     sweeps: u32,
 )
-    requires { ⌜ Ready (now words) (now bounds) × (count ≡ rowCount (now words)) × (1 ≤ processors) × Held (sheetOf (now words)) (askOf (now words) processors method) (now bounds) × (processors ≤ 64) × (length (now drops) ≡ count) ⌝ }
-    ensures lowered { λ r. ⌜ Held (sheetOf (now (words .entry))) (askOf (now (words .entry)) processors method) (now (bounds .exit)) × Below (rowCount (now (words .entry))) (now (bounds .exit)) (now (bounds .entry)) ⌝ }
-    ensures kept { λ r. ⌜ length (now (drops .exit)) ≡ count ⌝ }
+    requires { ⌜ Ready (now words) (now bounds) × (count ≡ rowCount (now words)) × (1 ≤ processors) × Held (sheetOf (now words)) (askOf (now words) processors method) (now bounds) × (processors ≤ 64) × Small (rowCount (now words)) (now drops) ⌝ }
+    ensures { λ r. ⌜ Descended (now (words .entry)) (askOf (now (words .entry)) processors method) (now (bounds .entry)) (now (bounds .exit)) (now (drops .exit)) ⌝ }
 {
     if sweeps != 0 {
         return;
     }
-    fill_drops(words, bounds, drops, count);
     descend(words, bounds, drops, processors, method, count);
 }

@@ -1,28 +1,28 @@
--- `fill_drops` leaves drops that are at most bounds, which are at most a million.
+-- `note_drops` leaves drops that are at most bounds, which are at most a million.
 use borrow.Author.Needs.{needs}
 use native.Mathlib.Omega.{arith}
 use mathlib.Core.Path.{_≡_, _∙_}
-use Prim.Native.Nat.{ℕ, _+_, _-_, _≤_, _<_}
 use mathlib.Core.Logic.{⊎-elim}
+use Prim.Native.Nat.{ℕ, _+_, _-_, _≤_, _<_}
 use native.Mathlib.Nat.{eq-or-lt-of-le}
 use lib.ListN.{length, getD, length-set}
 use lib.Seq.{getD-set-same, getD-set-other}
+use denote.Ref.{now}
 use Rattle.rows.specs.Words.{rowCount}
 use Rattle.rows.proofs.Checks.{sound-row}
 use Rattle.analysis.proofs.Limits.{bound-in-range}
-use denote.Ref.{now}
-use Rattle.analysis.proofs.ray.fill_drops.Statement.{statement}
-use Rattle.analysis.proofs.ray.fill_drops.Tie as tie
+use Rattle.analysis.proofs.ray.note_drops.Statement.{statement}
+use Rattle.analysis.proofs.ray.note_drops.Tie as tie
 
 abbrev Inv-loop : tie.InvT-loop
-Inv-loop words bounds drops₀ count row₀ drops row =
+Inv-loop words bounds before drops₀ count sweeps row₀ drops row =
     (row ≤ count) × (length drops ≡ count) × ((i : ℕ) → i < row → getD drops i 0 ≤ 1_000_000)
 
 abbrev μ-loop : tie.MeasureT-loop
-μ-loop words bounds drops₀ count row₀ drops row = count - row
+μ-loop words bounds before drops₀ count sweeps row₀ drops row = count - row
 
 loop-holds : tie.Need-loop-holds Inv-loop μ-loop
-loop-holds c = (omega arith, c .before .before .before .pre .2, λ i h. absurd (omega arith))
+loop-holds c = (omega arith, c .before .before .before .before .pre .2, λ i h. absurd (omega arith))
 
 cast-at : tie.Need-cast-at Inv-loop μ-loop
 cast-at c = search needs
@@ -30,17 +30,14 @@ cast-at c = search needs
 mul-at : tie.Need-mul-at Inv-loop μ-loop
 mul-at c = search needs
 
-cast-next-drop : tie.Need-cast-next-drop Inv-loop μ-loop
-cast-next-drop c = search needs
+cast-place : tie.Need-cast-place Inv-loop μ-loop
+cast-place c = search needs
 
 mul-next-drop : tie.Need-mul-next-drop Inv-loop μ-loop
 mul-next-drop c = search needs
 
 slice-read-next-drop : tie.Need-slice-read-next-drop Inv-loop μ-loop
 slice-read-next-drop c = search needs
-
-cast-next-drop-2 : tie.Need-cast-next-drop-2 Inv-loop μ-loop
-cast-next-drop-2 c = search needs
 
 mul-next-drop-2 : tie.Need-mul-next-drop-2 Inv-loop μ-loop
 mul-next-drop-2 c = search needs
@@ -54,11 +51,14 @@ mul-next-drop-3 c = search needs
 shared-slice-read-next-drop-2 : tie.Need-shared-slice-read-next-drop-2 Inv-loop μ-loop
 shared-slice-read-next-drop-2 c = search needs
 
+mul-next-drop-4 : tie.Need-mul-next-drop-4 Inv-loop μ-loop
+mul-next-drop-4 c = search needs
+
+shared-slice-read-next-drop-3 : tie.Need-shared-slice-read-next-drop-3 Inv-loop μ-loop
+shared-slice-read-next-drop-3 c = search needs
+
 next-drop-requires : tie.Need-next-drop-requires Inv-loop μ-loop
 next-drop-requires c κs = search needs
-
-cast-drops : tie.Need-cast-drops Inv-loop μ-loop
-cast-drops c = search needs
 
 mul-drops : tie.Need-mul-drops Inv-loop μ-loop
 mul-drops c = search needs
@@ -78,8 +78,8 @@ last h = omega arith
 
 loop-again : tie.Need-loop-again Inv-loop μ-loop
 loop-again c =
-    let p = c .before .before .before .before .before .before .before .before .before in
-    let q = c .before .before .before .before .before .loop in
+    let p = c .before .before .before .before .before .before .before .before .before .before .before in
+    let q = c .before .before .before .before .before .before .loop in
     let words = now (p .args .words) in
     let inside : q .row < rowCount words = omega (arith, p .pre .1) in
     let range = bound-in-range words (now (p .args .bounds)) (p .pre .0) (q .row) inside in
@@ -100,13 +100,13 @@ same-length c = search needs
 
 returns : tie.Need-returns Inv-loop μ-loop
 returns c =
-    let p = c .before .before .before .before .before in
+    let p = c .before .before .before .before .before .before in
     let q = c .before .loop in
     let done : q .row ≡ rowCount (now (p .args .words)) = omega (arith, p .pre .1, q .inv .0) in
     record { one-each = q .inv .1 ∙ p .pre .1; each = λ i h. q .inv .2 i (omega arith) }
 
-pub fill-drops-spec : {M : Type 1} → statement M
-fill-drops-spec =
+pub note-drops-spec : {M : Type 1} → statement M
+note-drops-spec =
     tie.close
     (tie.spec
     Inv-loop
@@ -114,16 +114,16 @@ fill-drops-spec =
     loop-holds
     cast-at
     mul-at
-    cast-next-drop
+    cast-place
     mul-next-drop
     slice-read-next-drop
-    cast-next-drop-2
     mul-next-drop-2
     shared-slice-read-next-drop
     mul-next-drop-3
     shared-slice-read-next-drop-2
+    mul-next-drop-4
+    shared-slice-read-next-drop-3
     next-drop-requires
-    cast-drops
     mul-drops
     slice-write-drops
     add-row
