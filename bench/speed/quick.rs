@@ -62,7 +62,8 @@ fn sweep(asked: Asked, bounds: &mut [u32], drops: &mut [u32], others: &mut Other
     marks
 }
 
-/// Refines by the at-once engine; the marks of the last sweep, which changed nothing, are the final ones.
+/// Refines by the at-once engine; the marks of the last sweep, which changed nothing, are the final ones. A ray goes by the
+/// least drop of each row since the last ray: a row that falls in some sweeps only would hold the others' ray up.
 pub fn refine_at_once(words: &[u32], processors: u32, method: u32, bounds: &mut [u32]) -> u64 {
     if !refining_allowed(words, processors, method, bounds.len()) {
         return 0;
@@ -74,17 +75,26 @@ pub fn refine_at_once(words: &[u32], processors: u32, method: u32, bounds: &mut 
         processors,
         method,
     };
-    let (mut drops, mut others) = ([0; 64], Others::none());
-    let drops = &mut drops[..bounds.len()];
+    let (mut drops, mut least, mut others) = ([0; 64], [u32::MAX; 64], Others::none());
+    let (drops, least) = (&mut drops[..bounds.len()], &mut least[..bounds.len()]);
     let mut sweeps = 0;
     loop {
         let marks = sweep(asked, bounds, drops, &mut others);
         if drops.iter().all(|&drop| drop == 0) {
             return marks;
         }
+        lower_each(least, drops);
         sweeps += 1;
         if sweeps % SWEEPS_TO_A_RAY == 0 {
-            ray::lower(asked, bounds, drops);
+            ray::lower(asked, bounds, least);
+            least.fill(u32::MAX);
         }
+    }
+}
+
+/// Lowers each number to another one where that is less.
+fn lower_each(numbers: &mut [u32], others: &[u32]) {
+    for (number, &other) in numbers.iter_mut().zip(others) {
+        *number = (*number).min(other);
     }
 }
