@@ -63,7 +63,7 @@ fn sweep(asked: Asked, bounds: &mut [u32], drops: &mut [u32], others: &mut Other
 }
 
 /// Refines by the at-once engine; the marks of the last sweep, which changed nothing, are the final ones. A ray goes by the
-/// least drop of each row since the last ray: a row that falls in some sweeps only would hold the others' ray up.
+/// least drop of each row since the last ray, the next one by the last drop alone, and so by turns.
 pub fn refine_at_once(words: &[u32], processors: u32, method: u32, bounds: &mut [u32]) -> u64 {
     if !refining_allowed(words, processors, method, bounds.len()) {
         return 0;
@@ -87,6 +87,9 @@ pub fn refine_at_once(words: &[u32], processors: u32, method: u32, bounds: &mut 
         sweeps += 1;
         if sweeps % SWEEPS_TO_A_RAY == 0 {
             ray::lower(asked, bounds, least);
+        }
+        let by_turns = sweeps % (2 * SWEEPS_TO_A_RAY);
+        if by_turns == 0 || by_turns >= SWEEPS_TO_A_RAY {
             least.fill(u32::MAX);
         }
     }

@@ -8,7 +8,7 @@ use sheets::families::{
 };
 
 /// Whether the families are measured at full size. That ends only where the proved program is the quick one.
-const FULL_SIZE: bool = false;
+const FULL_SIZE: bool = true;
 
 /// The small periods of the unit fractions: together they leave 1/1806 of a processor.
 const FOUR_PERIODS: [u64; 4] = [2, 3, 7, 43];

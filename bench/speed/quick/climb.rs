@@ -45,10 +45,9 @@ fn chord(others: &Others, processors: u32, cost: u32, tried: u32, longest: u32) 
 /// RTA's answer: the least value that the other rows leave enough of; 0 where there is none up to the deadline.
 pub fn least_solution(others: &mut Others, processors: u32, cost: u32, deadline: u32) -> u32 {
     let (mut tried, mut steps) = (cost, 0);
-    others.begin(cost);
     loop {
         let cap = tried - cost + 1;
-        let sum = others.sum(cap);
+        let sum = others.sum(tried, cap);
         if sum < processors * cap {
             return tried;
         }
@@ -62,6 +61,5 @@ pub fn least_solution(others: &mut Others, processors: u32, cost: u32, deadline:
             return 0;
         }
         tried += stretch + 1;
-        others.advance(stretch + 1);
     }
 }

@@ -194,7 +194,7 @@ pub(crate) fn settle_at_once(
             return outcome.seen;
         }
         note_drops(words, bounds, before, drops, count, sweeps);
-        sweeps = (sweeps + 1) % 4;
+        sweeps = (sweeps + 1) % 8;
         hasten(words, bounds, drops, processors, method, count, sweeps);
     }
 }

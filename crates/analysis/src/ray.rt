@@ -353,16 +353,14 @@ pub(crate) fn step_down(bounds: &mut [u32], drops: &[u32], count: u32, steps: u3
     }
 }
 
-// A guess at a row's next drop: the least of its drops since the last ray, or none where that would lead below its cost.
+// A guess at a row's next drop: by turns the least of its drops since the last ray and the last one; none where that would lead below its
+// cost.
 pub(crate) fn next_drop(seen: u32, before: u32, bound: u32, cost: u32, sweeps: u32) -> u32
     ensures { λ r. ⌜ r ≤ bound ⌝ }
 {
     let last = less(before, bound);
-    let drop = if sweeps == 0 {
-        last
-    } else {
-        lesser(seen, last)
-    };
+    let kept = if sweeps < 4 { lesser(seen, last) } else { last };
+    let drop = if sweeps == 0 { last } else { kept };
     if less(bound, cost) < drop { 0 } else { drop }
 }
 
@@ -433,7 +431,7 @@ pub(crate) fn descend(
     }
 }
 
-// Where the count of sweeps is 0 again, the drops noted are followed down; else nothing is done.
+// After every fourth sweep the drops noted are followed down; else nothing is done.
 pub(crate) fn hasten(
     words: &[u32],
     bounds: &mut [u32],
@@ -446,7 +444,7 @@ pub(crate) fn hasten(
     requires { ⌜ Ready (now words) (now bounds) × (count ≡ rowCount (now words)) × (1 ≤ processors) × Held (sheetOf (now words)) (askOf (now words) processors method) (now bounds) × (processors ≤ 64) × Small (rowCount (now words)) (now drops) ⌝ }
     ensures { λ r. ⌜ Descended (now (words .entry)) (askOf (now (words .entry)) processors method) (now (bounds .entry)) (now (bounds .exit)) (now (drops .exit)) ⌝ }
 {
-    if sweeps != 0 {
+    if sweeps % 4 != 0 {
         return;
     }
     descend(words, bounds, drops, processors, method, count);

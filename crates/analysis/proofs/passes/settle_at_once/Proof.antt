@@ -24,7 +24,7 @@ Inv-loop words bounds₀ before₀ drops₀ processors method count sweeps₀ bo
     × Held (sheetOf words) (askOf words processors method) bounds
     × (length before ≡ count)
     × (length drops ≡ count)
-    × (sweeps ≤ 3)
+    × (sweeps ≤ 7)
 
 abbrev μ-loop : tie.MeasureT-loop
 μ-loop words bounds₀ before₀ drops₀ processors method count sweeps₀ bounds before drops sweeps = boundsSum (sheetOf words) bounds
