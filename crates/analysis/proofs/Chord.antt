@@ -7,6 +7,7 @@ use native.Mathlib.Nat.{add-zero, div-mul-le-self, div-le-of-le-mul, mul-le-mul-
 use native.Mathlib.Omega.{arith}
 use lib.ListN.{getD}
 use Rattle.laws.specs.Sum.{total}
+use Rattle.laws.specs.Places.{over, Places}
 use Rattle.laws.proofs.Sum.{total-mono, total-same}
 use Rattle.laws.proofs.Concave.{Concave, concave-same, concave-self, concave-add, concave-times, concave-min, concave-total, total-times, above-line}
 use Rattle.model.specs.Interference.{work, workOf}
@@ -66,18 +67,20 @@ module _ (words R taken : List ℕ) (ready : Ready words R) where
       rw time
 
   -- What the lines exclude at both ends they exclude between them.
-  pub chord-excludes : (count m x cap far : ℕ) → count ≡ rowCount words
-      → 4_294_967_296 * (m * cap) ≤ total (lineOf (sheetOf words) R taken x cap) count
-      → 4_294_967_296 * (m * (cap + far)) ≤ total (lineOf (sheetOf words) R taken (x + far) (cap + far)) count
-      → Excluded (sheetOf words) R taken count m x cap far
+  pub chord-excludes : (pending : List ℕ) (left settled m x cap far : ℕ) → Places pending left (rowCount words)
+      → 4_294_967_296 * (m * cap) ≤ 4_294_967_296 * settled + total (over (lineOf (sheetOf words) R taken x cap) pending) left
+      → 4_294_967_296 * (m * (cap + far)) ≤ 4_294_967_296 * settled + total (over (lineOf (sheetOf words) R taken (x + far) (cap + far)) pending) left
+      → Excluded (sheetOf words) R taken pending left settled m x cap far
   unfolding laterOf
-  chord-excludes count m x cap far counted start end d inside =
+  chord-excludes pending left settled m x cap far places start end d inside =
       let s = sheetOf words in
-      let moved : (e : ℕ) → total (lineOf s R taken (x + e) (cap + e)) count ≡ total (λ i. laterOf x cap i e) count =
-      λ e. total-same _ _ count (λ i h. line-later x cap i e (rw counted at h)) in
-      let first : total (lineOf s R taken x cap) count ≡ total (λ i. laterOf x cap i 0) count = rw (add-zero x, add-zero cap) at (moved 0) in
-      let above = above-line (λ e. total (λ i. laterOf x cap i e) count) (concave-total (laterOf x cap) count (λ i h. later-concave _ _ _ cap))
+      let moved : (e : ℕ) → total (over (lineOf s R taken (x + e) (cap + e)) pending) left ≡ total (λ i. laterOf x cap (getD pending i 0) e) left =
+      λ e. total-same _ _ left (λ i h. line-later x cap _ e (places .inside i h)) in
+      let first : total (over (lineOf s R taken x cap) pending) left ≡ total (λ i. laterOf x cap (getD pending i 0) 0) left = rw (add-zero x, add-zero cap) at (moved 0) in
+      let above = above-line (λ e. 4_294_967_296 * settled + total (λ i. laterOf x cap (getD pending i 0) e) left)
+      (concave-add (λ e. 4_294_967_296 * settled) (λ e. total (λ i. laterOf x cap (getD pending i 0) e) left) (concave-same (4_294_967_296 * settled))
+      (concave-total (λ i e. laterOf x cap (getD pending i 0) e) left (λ i h. later-concave _ _ _ cap)))
       (4_294_967_296 * (m * cap)) (4_294_967_296 * m) far d (omega (arith, first)) (omega (arith, moved far, mul-add m cap far, mul-assoc 4_294_967_296 m far)) inside in
-      let below = total-mono (lineOf s R taken (x + d) (cap + d)) (λ i. 4_294_967_296 * termOf s R taken (x + d) (cap + d) i) count
-      (λ i h. line-below i (x + d) (cap + d) (rw counted at h)) in
-      omega (arith, above, moved d, below, total-times 4_294_967_296 (termOf s R taken (x + d) (cap + d)) count, mul-add m cap d, mul-assoc 4_294_967_296 m d)
+      let below = total-mono (over (lineOf s R taken (x + d) (cap + d)) pending) (λ i. 4_294_967_296 * termOf s R taken (x + d) (cap + d) (getD pending i 0)) left
+      (λ i h. line-below _ (x + d) (cap + d) (places .inside i h)) in
+      omega (arith, above, moved d, below, total-times 4_294_967_296 (over (termOf s R taken (x + d) (cap + d)) pending) left, mul-add m cap d, mul-assoc 4_294_967_296 m d)

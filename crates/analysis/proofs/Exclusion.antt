@@ -1,24 +1,25 @@
 -- Why a jump skips no solution: each term rises one a step to its room, so the sum is not below a concave function of the steps.
 use mathlib.Core.Path.{_≡_, refl, _∙_, ap}
-use mathlib.Core.List.{List}
+use mathlib.Core.List.{List, _++_}
 use Prim.Native.Nat.{ℕ, _+_, _*_, _-_, _/_, _≤_, _<_, min}
 use native.Mathlib.Nat.{le-trans, le-min, le-div-iff-mul-le, mul-comm, le-of-mul-le-mul-right}
 use native.Mathlib.Decide.{ℕ-discrete}
 use native.Mathlib.Omega.{arith}
 use borrow.Author.Tests.{eq-eqb, ne-eqb}
-use lib.ListN.{length, getD}
+use lib.ListN.{length, getD, drop}
 use Rattle.laws.specs.Sum.{total}
 use Rattle.laws.specs.Fill.{listed}
+use Rattle.laws.specs.Places.{over, Places}
 use Rattle.laws.proofs.Choice.{pick-yes, pick-no}
 use Rattle.laws.proofs.Sum.{total-mono, total-same, total-within}
-use Rattle.laws.proofs.Fill.{listed-length, listed-at}
+use Rattle.laws.proofs.Fill.{listed-front}
 use Rattle.laws.proofs.Concave.{none-skipped}
 use Rattle.model.specs.Interference.{carried, work, workOf, rtaRight}
 use Rattle.model.proofs.Rise.{carried-within, carried-rises, carried-full}
 use Rattle.rows.specs.Words.{rowCount, sheetOf}
 use Rattle.rows.proofs.Checks.{sound-row}
-use Rattle.analysis.specs.Inner.{Ready, Prepared, termOf, reach, roomOf, Rooms, Jumped, Excluded, Onward}
-use Rattle.analysis.proofs.Limits.{bound-in-range, work-positive, term-within-cap}
+use Rattle.analysis.specs.Inner.{Ready, Prepared, termOf, reach, roomOf, Rooms, Jumped, pendingSum, PendingRows, Excluded, Onward}
+use Rattle.analysis.proofs.Limits.{bound-in-range, term-within-cap}
 use Rattle.analysis.proofs.Shares.{prepared-small, right-from-terms}
 
 -- What holds in both cases holds of what a term comes to for certain.
@@ -73,19 +74,6 @@ term-rises words R taken ready i x cap d inside =
     let sized = sound-row words (ready .rows) i inside in
     one-rises (s .cost i) (s .period i) (getD R i 0) (getD taken i 0) x cap d (omega arith) (bound-in-range words R ready i inside .0)
 
--- With a share of 0 or 1 no work need be looked at, and no new job either.
-pub small-share : (words R taken : List ℕ) → Ready words R → (i x cap : ℕ) → i < rowCount words → 1 ≤ x → getD taken i 0 ≤ 1
-    → (min (getD taken i 0) cap ≡ termOf (sheetOf words) R taken x cap i)
-    × (getD taken i 0 - min (getD taken i 0) cap ≡ roomOf (sheetOf words) R taken x cap i)
-unfolding termOf roomOf workOf
-small-share words R taken ready i x cap inside window small =
-    let s = sheetOf words in
-    let some-cost : 1 ≤ s .cost i = sound-row words (ready .rows) i inside .positive in
-    let some-work = work-positive (s .cost i) (s .period i) (getD R i 0) x some-cost (bound-in-range words R ready i inside .0) window in
-    let whole : reach (s .cost i) (s .period i) ((x + getD R i 0 - s .cost i) / s .period i * s .cost i) (getD taken i 0) ≡ getD taken i 0 =
-    by-period (λ top. top ≡ getD taken i 0) (s .cost i) (s .period i) _ (getD taken i 0) (λ same. refl) (omega arith) in
-    (omega arith, omega arith)
-
 -- A room is within the share.
 pub room-within : (words R taken : List ℕ) (x cap i : ℕ) → roomOf (sheetOf words) R taken x cap i ≤ getD taken i 0
 unfolding roomOf
@@ -98,14 +86,15 @@ room-within words R taken x cap i =
 
 module _ (words R taken : List ℕ) (row count m : ℕ) (prepared : Prepared words R taken row count m) where
   -- The rooms that were filled in are rooms.
-  pub rooms-filled : (room : List ℕ) (x cap : ℕ) → room ≡ listed (roomOf (sheetOf words) R taken x cap) count → Rooms room count
-  rooms-filled room x cap filled =
+  pub rooms-filled : (pending room before : List ℕ) (left x cap : ℕ) → Places pending left count → left ≤ length room
+      → room ≡ listed (over (roomOf (sheetOf words) R taken x cap) pending) left ++ drop left before → Rooms room left
+  rooms-filled pending room before left x cap places there filled =
       record {
-        one-each = ap length filled ∙ listed-length _ count;
-        few = omega (arith, prepared .counted, prepared .ready .rows .at-most);
+        there = there;
+        few = omega (arith, places .few, prepared .counted, prepared .ready .rows .at-most);
         small = λ i h.
-            rw (filled, listed-at (roomOf (sheetOf words) R taken x cap) count i h)
-            (le-trans (room-within words R taken x cap i) (prepared-small words R taken row count m prepared i h));
+            rw (listed-front (over (roomOf (sheetOf words) R taken x cap) pending) left i room (drop left before) filled h)
+            (le-trans (room-within words R taken x cap _) (prepared-small words R taken row count m prepared _ (places .inside i h)));
       }
 
   -- A sum whose m-th part is not below the cap fills m times the cap.
@@ -120,16 +109,21 @@ module _ (words R taken : List ℕ) (row count m : ℕ) (prepared : Prepared wor
       le-trans (le-of-mul-le-mul-right (le-trans full most) some-cap) (omega (arith, prepared .counted, prepared .ready .rows .at-most))
 
   -- A jump over the rooms excludes all that it passes.
-  pub jump-excludes : (room : List ℕ) (x cap gain most far : ℕ) → room ≡ listed (roomOf (sheetOf words) R taken x cap) count
-      → m * cap ≤ total (termOf (sheetOf words) R taken x cap) count → gain ≡ total (termOf (sheetOf words) R taken x cap) count - m * cap
-      → Jumped room count gain m most far → Excluded (sheetOf words) R taken count m x cap far
-  jump-excludes room x cap gain most far filled full is-gain jumped d inside =
-      let at : (i : ℕ) → i < count → min far (getD room i 0) ≡ min far (roomOf (sheetOf words) R taken x cap i) =
-      λ i h. ap (min far) (ap (λ (l : List ℕ). getD l i 0) filled ∙ listed-at (roomOf (sheetOf words) R taken x cap) count i h) in
-      let same = total-same (λ i. min far (getD room i 0)) (λ i. min far (roomOf (sheetOf words) R taken x cap i)) count at in
+  pub jump-excludes : (pending room before : List ℕ) (left settled x cap gain most far : ℕ) → Places pending left count
+      → room ≡ listed (over (roomOf (sheetOf words) R taken x cap) pending) left ++ drop left before
+      → m * cap ≤ pendingSum (sheetOf words) R taken pending left settled x cap
+      → gain ≡ pendingSum (sheetOf words) R taken pending left settled x cap - m * cap
+      → Jumped room left gain m most far → Excluded (sheetOf words) R taken pending left settled m x cap far
+  jump-excludes pending room before left settled x cap gain most far places filled full is-gain jumped d inside =
+      let terms = over (termOf (sheetOf words) R taken x cap) pending in
+      let rooms = over (roomOf (sheetOf words) R taken x cap) pending in
+      let at : (i : ℕ) → i < left → min far (getD room i 0) ≡ min far (rooms i) =
+      λ i h. ap (min far) (listed-front rooms left i room (drop left before) filled h) in
+      let same = total-same (λ i. min far (getD room i 0)) (λ i. min far (rooms i)) left at in
       le-trans
-      (none-skipped m cap far count (termOf (sheetOf words) R taken x cap) (roomOf (sheetOf words) R taken x cap) full (omega (arith, jumped .gains, same, is-gain)) d inside)
-      (total-mono _ _ count (λ i h. term-rises words R taken (prepared .ready) i x cap d (omega (arith, prepared .counted))))
+      (none-skipped m cap far settled left terms rooms full (omega (arith, jumped .gains, same, is-gain)) d inside)
+      (omega (arith, total-mono (λ i. terms i + min d (rooms i)) (over (termOf (sheetOf words) R taken (x + d) (cap + d)) pending) left
+      (λ i h. term-rises words R taken (prepared .ready) _ x cap d (omega (arith, places .inside i h, prepared .counted)))))
 
   -- X stands where the terms do not fill m times the cap.
   pub right-stands : (own sum x : ℕ) → own ≡ (sheetOf words) .cost row → own ≤ x → x ≤ (sheetOf words) .deadline row
@@ -149,16 +143,19 @@ module _ (words R taken : List ℕ) (row count m : ℕ) (prepared : Prepared wor
       omega (arith, right)
 
   -- Past what is excluded is onward.
-  pub past-excluded : (own x far : ℕ) → own ≡ (sheetOf words) .cost row → own ≤ x → x + far ≤ (sheetOf words) .deadline row
-      → Excluded (sheetOf words) R taken count m x (x - own + 1) far → Onward (rtaRight (sheetOf words) m row R) x (x + far + 1)
-  past-excluded own x far is-cost from within excluded =
+  pub past-excluded : (pending : List ℕ) (left settled own x far : ℕ) → own ≡ (sheetOf words) .cost row → own ≤ x
+      → x + far ≤ (sheetOf words) .deadline row → PendingRows (sheetOf words) R taken pending count left settled x (x - own + 1)
+      → Excluded (sheetOf words) R taken pending left settled m x (x - own + 1) far → Onward (rtaRight (sheetOf words) m row R) x (x + far + 1)
+  past-excluded pending left settled own x far is-cost from within rows excluded =
       record {
         from = omega arith;
         stands = λ same. absurd (omega arith);
         passed = λ z low high.
             let there : x + (z - x) ≡ z = omega arith in
             let cap : x - own + 1 + (z - x) ≡ z - own + 1 = omega arith in
-            right-above own z is-cost (omega arith) (omega arith) (rw (there, cap) at (excluded (z - x) (omega arith)));
+            let full : m * (x - own + 1 + (z - x)) ≤ total (termOf (sheetOf words) R taken (x + (z - x)) (x - own + 1 + (z - x))) count =
+            rw (← rows .same (z - x)) (excluded (z - x) (omega arith)) in
+            right-above own z is-cost (omega arith) (omega arith) (rw (there, cap) at full);
       }
 
   -- Not going on is onward where X stands.

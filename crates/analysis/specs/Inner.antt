@@ -9,6 +9,7 @@ use lib.ListN.{length, getD}
 use Rattle.laws.specs.Choice.{pick}
 use Rattle.laws.specs.Sum.{total, unless}
 use Rattle.laws.specs.Fill.{listed}
+use Rattle.laws.specs.Places.{over, Places}
 use Rattle.model.specs.Sheet.{Sheet}
 use Rattle.model.specs.Interference.{workOf, bclTerm}
 use Rattle.model.specs.Refine.{Ask, marks}
@@ -89,15 +90,24 @@ pub record Jumped (room : List ℕ) (count gain m most far : ℕ) : Type 0 where
   pub within : far ≤ most
   pub gains : m * far ≤ gain + total (λ i. min far (getD room i 0)) count
 
--- Rooms one for each row, none above a million.
+-- So many rooms, none above a million.
 pub record Rooms (room : List ℕ) (count : ℕ) : Type 0 where
-  pub one-each : length room ≡ count
+  pub there : count ≤ length room
   pub few : count ≤ 64
   pub small : (i : ℕ) → i < count → getD room i 0 ≤ 1_000_000
 
+-- What all other rows add at X: what is settled, and the terms of the pending rows, by their places.
+abbrev pub pendingSum : Sheet → List ℕ → List ℕ → List ℕ → ℕ → ℕ → ℕ → ℕ → ℕ
+pendingSum s R taken pending left settled x cap = settled + total (over (termOf s R taken x cap) pending) left
+
+-- The pending rows, which may add more than they add at X. Each other row adds its whole share at X and above, and that is settled.
+pub record PendingRows (s : Sheet) (R taken pending : List ℕ) (count left settled x cap : ℕ) : Type 0 where
+  pub places : Places pending left count
+  pub same : (d : ℕ) → pendingSum s R taken pending left settled (x + d) (cap + d) ≡ total (termOf s R taken (x + d) (cap + d)) count
+
 -- No X from x to x + far solves the equation: at each of them the terms fill m times the cap.
-abbrev pub Excluded : Sheet → List ℕ → List ℕ → ℕ → ℕ → ℕ → ℕ → ℕ → Type 0
-Excluded s R taken count m x cap far = (d : ℕ) → d ≤ far → m * (cap + d) ≤ total (termOf s R taken (x + d) (cap + d)) count
+abbrev pub Excluded : Sheet → List ℕ → List ℕ → List ℕ → ℕ → ℕ → ℕ → ℕ → ℕ → ℕ → Type 0
+Excluded s R taken pending left settled m x cap far = (d : ℕ) → d ≤ far → m * (cap + d) ≤ pendingSum s R taken pending left settled (x + d) (cap + d)
 
 -- The next number worth looking at: x itself only where it is not raised, and every number passed is below its value.
 pub record Onward (f : ℕ → ℕ) (x next : ℕ) : Type 0 where

@@ -181,7 +181,7 @@ pub(crate) fn answer_row(
     )
 }
 
-// One row's answer by either method, RTA's by jumps, with space for what each other row takes and for its room.
+// One row's answer by either method, RTA's by jumps, with space for what each other row takes, for the places of pending rows and for rooms.
 pub(crate) fn answer_quickly_in(
     words: &[u32],
     bounds: &[u32],
@@ -190,16 +190,17 @@ pub(crate) fn answer_quickly_in(
     processors: u32,
     method: u32,
     taken: &mut [u32],
+    pending: &mut [u32],
     room: &mut [u32],
 ) -> Found
-    requires { ⌜ Ready (now words) (now bounds) × (row < rowCount (now words)) × (count ≡ rowCount (now words)) × (1 ≤ processors) × (length (now taken) ≡ count) × (length (now room) ≡ count) ⌝ }
+    requires { ⌜ Ready (now words) (now bounds) × (row < rowCount (now words)) × (count ≡ rowCount (now words)) × (1 ≤ processors) × (length (now taken) ≡ count) × (length (now pending) ≡ count) × (length (now room) ≡ count) ⌝ }
     ensures { λ r. ⌜ r ≡ foundOf (answer (methodOf method) (sheetOf (now (words .entry))) processors row (now (bounds .entry))) ⌝ }
 {
     fill_shares(words, bounds, row, count, taken);
     if method == 0 {
         bcl_row(words, bounds, taken, row, count, processors)
     } else {
-        rta_quickly(words, bounds, taken, row, count, processors, room)
+        rta_quickly(words, bounds, taken, row, count, processors, pending, room)
     }
 }
 
@@ -216,6 +217,7 @@ pub(crate) fn answer_quickly(
     ensures { λ r. ⌜ r ≡ foundOf (answer (methodOf method) (sheetOf (now (words .entry))) processors row (now (bounds .entry))) ⌝ }
 {
     let mut taken = [0u32; 64];
+    let mut pending = [0u32; 64];
     let mut room = [0u32; 64];
     let end = count as usize;
     answer_quickly_in(
@@ -226,6 +228,7 @@ pub(crate) fn answer_quickly(
         processors,
         method,
         &mut taken[..end],
+        &mut pending[..end],
         &mut room[..end],
     )
 }

@@ -97,21 +97,21 @@ above-line f it p q e (suc d) start end inside =
     (it (suc d) (e - suc d))))
     (omega arith)
 
--- No solution is skipped: sums a that fill m times the cap, and rise by up to e, each to its own room, as fast as m times the cap does at e,
--- fill it all the way to e.
-pub none-skipped : (m cap e n : ℕ) (a room : ℕ → ℕ) → m * cap ≤ total a n
-    → m * e ≤ total a n - m * cap + total (λ i. min e (room i)) n
-    → (d : ℕ) → d ≤ e → m * (cap + d) ≤ total (λ i. a i + min d (room i)) n
-none-skipped m cap e n a room start end d inside =
+-- No solution is skipped: a sum that fills m times the cap, of a part that stands and of terms a that rise by up to e, each to its own room,
+-- as fast as m times the cap does at e, fills it all the way to e.
+pub none-skipped : (m cap e stands n : ℕ) (a room : ℕ → ℕ) → m * cap ≤ stands + total a n
+    → m * e ≤ stands + total a n - m * cap + total (λ i. min e (room i)) n
+    → (d : ℕ) → d ≤ e → m * (cap + d) ≤ stands + total (λ i. a i + min d (room i)) n
+none-skipped m cap e stands n a room start end d inside =
     rw (mul-add m cap d)
-    (above-line f (concave-total (λ i d. a i + min d (room i)) n
-    (λ i h. concave-add (λ d. a i) (λ d. min d (room i)) (concave-same (a i)) (concave-min (λ d. d) (λ d. room i) concave-self (concave-same (room i)))))
+    (above-line f (concave-add (λ d. stands) (λ d. total (λ i. a i + min d (room i)) n) (concave-same stands) (concave-total (λ i d. a i + min d (room i)) n
+    (λ i h. concave-add (λ d. a i) (λ d. min d (room i)) (concave-same (a i)) (concave-min (λ d. d) (λ d. room i) concave-self (concave-same (room i))))))
     (m * cap) m e d
-    (le-trans start (total-mono a (λ i. a i + min 0 (room i)) n (λ i h. omega arith)))
+    (omega (arith, start, total-mono a (λ i. a i + min 0 (room i)) n (λ i h. omega arith)))
     (omega (arith, total-add a (λ i. min e (room i)) n)) inside)
   where
     f : ℕ → ℕ
-    f d = total (λ i. a i + min d (room i)) n
+    f d = stands + total (λ i. a i + min d (room i)) n
 
 -- Newton's rule for the largest such e falls: where e is too far, the steps that what is sure and the wide rooms pay for are fewer.
 pub newton-falls : (sure wide e m : ℕ) → sure + wide * e < m * e → (wide < m) × (sure / (m - wide) < e)

@@ -32,6 +32,11 @@ listed-at f (suc n) i h =
     (λ (before : i < n). List·getD-append (listed f n) (f n ∷ []) 0 i (rw listed-length before) ∙ listed-at f n i before)
     (eq-or-lt-of-le (le-of-suc-le-suc h))
 
+-- Whatever stands behind them.
+pub listed-front : (f : ℕ → ℕ) (n i : ℕ) (now rest : List ℕ) → now ≡ listed f n ++ rest → i < n → getD now i 0 ≡ f i
+listed-front f n i now rest filled h =
+    ap (λ (l : List ℕ). getD l i 0) filled ∙ List·getD-append (listed f n) rest 0 i (rw listed-length h) ∙ listed-at f n i h
+
 -- Two listings are the same where each place is.
 pub listed-same : (f g : ℕ → ℕ) (n : ℕ) → ((i : ℕ) → i < n → f i ≡ g i) → listed f n ≡ listed g n
 unfolding listed

@@ -1,32 +1,67 @@
 -- `line_excludes` compares in 64 bits what the definition compares.
-use mathlib.Core.Path.{ap}
-use Prim.Native.Nat.{_*_, _≤_}
-use native.Mathlib.Nat.{mul-le-mul}
-use lib.Dec.{leb}
-use native.Mathlib.Omega.{arith}
 use borrow.Author.Needs.{needs}
+use native.Mathlib.Omega.{arith}
+use mathlib.Core.Path.{ap}
+use Prim.Native.Nat.{ℕ, _+_, _*_, _≤_}
+use native.Mathlib.Nat.{mul-le-mul, le-trans}
+use lib.Dec.{leb}
+use denote.Ref.{now}
+use Rattle.laws.proofs.Sum.{total-within}
+use Rattle.laws.specs.Places.{over}
+use Rattle.rows.specs.Words.{sheetOf}
+use Rattle.analysis.specs.Inner.{lineOf}
+use Rattle.analysis.proofs.Chord.{line-within-cap}
 use Rattle.analysis.proofs.jumps.line_excludes.Statement.{statement}
 use Rattle.analysis.proofs.jumps.line_excludes.Tie as tie
 
+line-sum-requires : tie.Need-line-sum-requires
+line-sum-requires c κs = (c .before .before .before .before .pre .0, c .before .before .before .before .pre .1, c .before .before .before .before .pre .2, c .before .before .before .before .pre .5, c .before .before .before .before .pre .6)
+
 -- Processors times cap is within 64 millions.
 product-small : (s : tie.Start) → s .args .processors * s .args .cap ≤ 64_000_000
-product-small s = mul-le-mul (s .pre .3) (s .pre .5)
+product-small s = mul-le-mul (s .pre .4) (s .pre .6)
 
 mul-result : tie.Need-mul-result
-mul-result c = omega (arith, product-small (c .before .before .before))
+mul-result c = omega (arith, product-small (c .before .before .before .before .before))
 
 cast-result : tie.Need-cast-result
-cast-result c = omega (arith, product-small (c .before .before .before))
+cast-result c = omega (arith, product-small (c .before .before .before .before .before))
 
 mul-result-2 : tie.Need-mul-result-2
-mul-result-2 c = omega (arith, product-small (c .before .before .before))
+mul-result-2 c = omega (arith, product-small (c .before .before .before .before .before))
 
-line-sum-requires : tie.Need-line-sum-requires
-line-sum-requires c κs = search needs
+cast-result-2 : tie.Need-cast-result-2
+cast-result-2 c = search needs
+
+mul-result-3 : tie.Need-mul-result-3
+mul-result-3 c = search needs
+
+add-result : tie.Need-add-result
+add-result c = 
+    let p = c .before .before .before .before .before .before in
+    omega (
+      arith,
+      p .pre .3,
+      p .pre .0 .rows .at-most,
+      p .pre .2 .few,
+      p .pre .6,
+      c .before .line-sum .ensures,
+      total-within (over (lineOf (sheetOf (now (p .args .words))) (now (p .args .bounds)) (now (p .args .taken)) (p .args .x) (p .args .cap)) (now (p .args .pending)))
+          4_294_967_296_000_000 (p .args .rows .left) (λ i h. le-trans (line-within-cap _ _ _ _ _ _) (omega (arith, p .pre .6))),
+    )
 
 returns : tie.Need-returns
-returns c = ap (leb (4_294_967_296 * (c .before .before .before .before .args .processors * c .before .before .before .before .args .cap))) (c .line-sum .ensures)
+returns c = ap (λ (n : ℕ). leb (4_294_967_296 * (c .before .before .before .before .before .before .args .processors * c .before .before .before .before .before .before .args .cap)) (4_294_967_296 * c .before .before .before .before .before .before .args .rows .settled + n)) (c .before .line-sum .ensures)
 
 pub line-excludes-spec : {M : Type 1} → statement M
 line-excludes-spec =
-    tie.close (tie.spec mul-result cast-result mul-result-2 line-sum-requires returns)
+    tie.close
+    (tie.spec
+    line-sum-requires
+    mul-result
+    cast-result
+    mul-result-2
+    cast-result-2
+    mul-result-3
+    add-result
+    returns)
