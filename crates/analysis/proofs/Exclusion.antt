@@ -122,8 +122,11 @@ module _ (words R taken : List ℕ) (row count m : ℕ) (prepared : Prepared wor
       let same = total-same (λ i. min far (getD room i 0)) (λ i. min far (rooms i)) left at in
       le-trans
       (none-skipped m cap far settled left terms rooms full (omega (arith, jumped .gains, same, is-gain)) d inside)
-      (omega (arith, total-mono (λ i. terms i + min d (rooms i)) (over (termOf (sheetOf words) R taken (x + d) (cap + d)) pending) left
-      (λ i h. term-rises words R taken (prepared .ready) _ x cap d (omega (arith, places .inside i h, prepared .counted)))))
+      (omega (
+        arith,
+        total-mono (λ i. terms i + min d (rooms i)) (over (termOf (sheetOf words) R taken (x + d) (cap + d)) pending) left
+            (λ i h. term-rises words R taken (prepared .ready) _ x cap d (omega (arith, places .inside i h, prepared .counted))),
+      ))
 
   -- X stands where the terms do not fill m times the cap.
   pub right-stands : (own sum x : ℕ) → own ≡ (sheetOf words) .cost row → own ≤ x → x ≤ (sheetOf words) .deadline row

@@ -1,7 +1,7 @@
 -- Why rows may be left out: a row that adds its whole share at X adds as much at every X above, so the sum is the same without looking.
 use mathlib.Core.Path.{_≡_, _∙_}
 use mathlib.Core.List.{List}
-use Prim.Native.Nat.{ℕ, _+_, _*_, _≤_, _<_, min}
+use Prim.Native.Nat.{ℕ, _+_, _*_, _-_, _≤_, _<_}
 use native.Mathlib.Nat.{add-zero, add-assoc, le-antisymm, le-trans}
 use native.Mathlib.Omega.{arith}
 use lib.ListN.{length, getD}
@@ -38,17 +38,15 @@ module _ (words R taken : List ℕ) where
     pending-now = rw (add-zero x, add-zero cap) at (rows .same 0)
 
     -- The same rows are pending later.
-    pub pending-later : (n : ℕ) → PendingRows (sheetOf words) R taken pending count left settled (x + n) (cap + n)
+    pending-later : (n : ℕ) → PendingRows (sheetOf words) R taken pending count left settled (x + n) (cap + n)
     pending-later n = record { places = rows .places; same = λ d. rw (add-assoc x n d, add-assoc cap n d) (rows .same (n + d)) }
 
-    -- What is settled is within all that is added.
-    pub settled-within : settled ≤ count * cap
-    settled-within =
-        omega (
-          arith,
-          pending-now,
-          total-within (termOf (sheetOf words) R taken x cap) cap count (λ i h. term-within-cap (sheetOf words) R taken x cap i),
-        )
+    pub pending-from : (own next : ℕ) → own ≤ x → cap ≡ x - own + 1 → x ≤ next
+        → PendingRows (sheetOf words) R taken pending count left settled next (next - own + 1)
+    pending-from own next start is-cap further =
+        let there : x + (next - x) ≡ next = omega arith in
+        let later-cap : cap + (next - x) ≡ next - own + 1 = omega arith in
+        rw (there, later-cap) at (pending-later (next - x))
 
     -- Those that stay when all were passed are pending.
     pub pending-sifted : (now : List ℕ) (stay full : ℕ) → Sifted (later x cap) pending now count settled left stay full
@@ -64,7 +62,7 @@ module _ (words R taken : List ℕ) where
           same = λ d. sifted .same d ∙ rows .same d;
         }
 
-    -- What is settled on the way is no more than at its end.
+    -- What is settled on the way is no more than all add.
     pub sifted-within : (now : List ℕ) (passed stay full : ℕ) → passed ≤ left → Sifted (later x cap) pending now count settled passed stay full
         → full ≤ count * cap
     unfolding later

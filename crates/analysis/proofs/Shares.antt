@@ -11,7 +11,7 @@ use Rattle.laws.proofs.Sum.{total-same, total-within, unless-here, unless-other
 use Rattle.laws.proofs.Fill.{listed-length, listed-at}
 use Rattle.model.specs.Sheet.{Sheet}
 use Rattle.model.specs.Interference.{shareOf, workOf, others, bclTerm, bclValue, rtaTerm, rtaRight}
-use Rattle.rows.specs.Words.{sheetOf}
+use Rattle.rows.specs.Words.{rowCount, sheetOf}
 use Rattle.rows.proofs.Words.{sheet-rows}
 use Rattle.rows.proofs.Checks.{sound-row}
 use Rattle.analysis.specs.Inner.{shares, termOf, Prepared}
@@ -77,6 +77,10 @@ module _ (words R taken : List ℕ) (row count m : ℕ) (prepared : Prepared wor
   -- As many rows as the sheet has.
   pub prepared-rows : count ≡ (sheetOf words) .rows
   prepared-rows = prepared .counted ∙ sym (sheet-rows words)
+
+  -- The same, counted by the words themselves.
+  pub prepared-counted : Prepared words R taken row (rowCount words) m
+  prepared-counted = rw (prepared .counted) at prepared
 
   pub prepared-length : length taken ≡ count
   prepared-length =

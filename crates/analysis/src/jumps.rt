@@ -344,7 +344,18 @@ pub(crate) fn onward(
     if !try_far {
         return x + near + 1;
     }
-    let far = far_jump(words, bounds, taken, pending, rows, processors, x, cap, near, most);
+    let far = far_jump(
+        words,
+        bounds,
+        taken,
+        pending,
+        rows,
+        processors,
+        x,
+        cap,
+        near,
+        most,
+    );
     x + far + 1
 }
 

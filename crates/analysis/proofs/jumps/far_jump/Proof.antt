@@ -39,7 +39,7 @@ line-excludes-requires-2 : tie.Need-line-excludes-requires-2 Inv-loop μ-loop
 line-excludes-requires-2 c κs = (c .before .before .before .before .before .before .before .before .before .pre .0, c .before .before .before .before .before .before .before .before .before .pre .1, c .before .before .before .before .before .before .before .before .before .pre .2, c .before .before .before .before .before .before .before .before .before .pre .3, c .before .before .before .before .before .before .before .before .before .pre .4, omega (arith, c .before .loop .inv, c .before .before .before .before .before .before .before .before .before .pre .5), omega (arith, c .before .loop .inv, c .before .before .before .before .before .before .before .before .before .pre .6))
 
 returns-2 : tie.Need-returns-2 Inv-loop μ-loop
-returns-2 c = 
+returns-2 c =
     let p = c .before .before .before .before .before .before .before .before .before .before .before in
     let here = sym (c .before .before .before .before .before .before .line-excludes .ensures) ∙ not-false _ (c .before .before .before .before .before .if1 .left) in
     let there = sym (c .before .line-excludes2 .ensures) ∙ c .if2 .taken in (

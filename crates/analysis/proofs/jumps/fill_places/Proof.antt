@@ -38,7 +38,7 @@ loop-less : tie.Need-loop-less Inv-loop μ-loop
 loop-less c = search needs
 
 loop-again : tie.Need-loop-again Inv-loop μ-loop
-loop-again c = 
+loop-again c =
     let q = c .before .loop in (
       omega arith,
       length-set (q .pending) (q .place) (q .place) ∙ q .inv .1,
@@ -49,7 +49,7 @@ same-length : tie.Need-same-length Inv-loop μ-loop
 same-length c = search needs
 
 returns : tie.Need-returns Inv-loop μ-loop
-returns c = 
+returns c =
     let q = c .before .loop in
     let done : q .place ≡ c .before .before .args .count = omega arith in
     listed-all _ (q .place) (now (c .before .before .args .pending)) (q .pending) (omega (arith, c .before .before .pre)) (q .inv .2) ∙ ap (listed _) done

@@ -67,7 +67,7 @@ loop-less : tie.Need-loop-less Inv-loop μ-loop
 loop-less c = search needs
 
 loop-again : tie.Need-loop-again Inv-loop μ-loop
-loop-again c = 
+loop-again c =
     let p = c .before .before .before .before .before .before .before .before .before .before in
     let q = c .before .before .before .before .loop in
     let here = c .before .term-and-room in
@@ -84,7 +84,7 @@ same-length : tie.Need-same-length Inv-loop μ-loop
 same-length c = search needs
 
 returns : tie.Need-returns Inv-loop μ-loop
-returns c = 
+returns c =
     let p = c .before .before .before .before .before .before .before in
     let q = c .before .loop in
     let done : q .next ≡ p .args .left = omega arith in (

@@ -66,7 +66,7 @@ Sifting c left settled =
     (set (q .pending) (q .left) (getD (q .pending) (q .next) 0)) (rowCount (now (p .args .words))) (p .args .rows .settled) (q .next + 1) left settled
 
 stays : (c : tie.After-term Inv-loop μ-loop) → Sifting c (c .before .before .before .before .loop .left + 1) (c .before .before .before .before .loop .settled)
-stays c = 
+stays c =
     let p = c .before .before .before .before .before .before .before .before .before in
     let q = c .before .before .before .before .loop in
     sift-stays _ _ _ _ (q .pending) (q .next) (q .left) (q .settled) (q .inv .1) _ (q .inv .1 .behind (q .next) (omega arith)) (place-inside (c .before .before .before))
@@ -83,7 +83,7 @@ add-left : tie.Need-add-left Inv-loop μ-loop
 add-left c = omega (arith, c .before .before .before .before .before .loop .inv .1 .fewer, c .before .before .before .before .before .before .before .before .before .before .pre .2 .places .few, c .before .before .before .before .before .before .before .before .before .before .pre .0 .rows .at-most)
 
 add-settled : tie.Need-add-settled Inv-loop μ-loop
-add-settled c = 
+add-settled c =
     let p = c .before .before .before .before .before .before .before .before .before .before in
     let small : rowCount (now (p .args .words)) * p .args .cap ≤ 64_000_000 = mul-le-mul (p .pre .0 .rows .at-most) (p .pre .5) in
     omega (arith, small, sifted-within _ _ _ _ _ _ _ _ _ (p .pre .2) _ (c .before .before .before .before .before .loop .next + 1) _ _ (omega arith) (leaves (c .before) (omega (arith, c .if1 .left))))
@@ -104,7 +104,7 @@ same-length : tie.Need-same-length Inv-loop μ-loop
 same-length c = search needs
 
 returns : tie.Need-returns Inv-loop μ-loop
-returns c = 
+returns c =
     let p = c .before .before .before .before .before .before in
     let q = c .before .loop in
     let done : q .next ≡ p .args .rows .left = omega (arith, q .inv .0) in

@@ -37,7 +37,7 @@ mul-result-3 : tie.Need-mul-result-3
 mul-result-3 c = search needs
 
 add-result : tie.Need-add-result
-add-result c = 
+add-result c =
     let p = c .before .before .before .before .before .before in
     omega (
       arith,

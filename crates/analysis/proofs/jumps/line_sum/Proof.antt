@@ -52,7 +52,7 @@ loop-less : tie.Need-loop-less Inv-loop μ-loop
 loop-less c = search needs
 
 loop-again : tie.Need-loop-again Inv-loop μ-loop
-loop-again c = 
+loop-again c =
     let p = c .before .before .before .before .before .before .before .before in
     let q = c .before .before .before .loop in (
       omega arith,
@@ -61,7 +61,7 @@ loop-again c =
     )
 
 returns : tie.Need-returns Inv-loop μ-loop
-returns c = 
+returns c =
     let q = c .before .loop in
     let done : q .next ≡ c .before .before .before .before .before .before .args .left = omega arith in
     q .inv .1 ∙ ap (total _) done

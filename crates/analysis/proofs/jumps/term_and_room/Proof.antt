@@ -81,13 +81,13 @@ certain-requires : tie.Need-certain-requires
 certain-requires c κs = let p = c .before .before .before .before .before .before .before .before .before .before in let known = sizes _ _ (p .pre .0) (p .args .other) (p .pre .1) in (whole-small p, omega arith)
 
 sub-room : tie.Need-sub-room
-sub-room c = 
+sub-room c =
     let least = c .before .lesser2 .ensures in
     rw (c .certain .ensures) (reach-above _ _ _ _ _ (omega (arith, c .before .before .before .work-in-time .ensures, least)) (omega (arith, least, c .before .before .lesser .ensures)))
 
 returns : tie.Need-returns
 unfolding termOf roomOf workOf work sheetOf triples
-returns c = 
+returns c =
     let term = c .before .lesser2 .ensures ∙ ap₂ min (c .before .before .before .work-in-time .ensures) (c .before .before .lesser .ensures) in
     (term, ap₂ _-_ (c .certain .ensures) term)
 
