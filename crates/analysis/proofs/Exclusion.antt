@@ -2,7 +2,7 @@
 use mathlib.Core.Path.{_≡_, refl, _∙_, ap}
 use mathlib.Core.List.{List, _++_}
 use Prim.Native.Nat.{ℕ, _+_, _*_, _-_, _/_, _≤_, _<_, min}
-use native.Mathlib.Nat.{le-trans, le-min, le-div-iff-mul-le, mul-comm, le-of-mul-le-mul-right}
+use native.Mathlib.Nat.{le-trans, le-min, le-div-iff-mul-le, div-lt-iff-lt-mul, mul-comm}
 use native.Mathlib.Decide.{ℕ-discrete}
 use native.Mathlib.Omega.{arith}
 use borrow.Author.Tests.{eq-eqb, ne-eqb}
@@ -11,7 +11,7 @@ use Rattle.laws.specs.Sum.{total}
 use Rattle.laws.specs.Fill.{listed}
 use Rattle.laws.specs.Places.{over, Places}
 use Rattle.laws.proofs.Choice.{pick-yes, pick-no}
-use Rattle.laws.proofs.Sum.{total-mono, total-same, total-within}
+use Rattle.laws.proofs.Sum.{total-mono, total-same}
 use Rattle.laws.proofs.Fill.{listed-front}
 use Rattle.laws.proofs.Concave.{none-skipped}
 use Rattle.model.specs.Interference.{carried, work, workOf, rtaRight}
@@ -19,7 +19,7 @@ use Rattle.model.proofs.Rise.{carried-within, carried-rises, carried-full}
 use Rattle.rows.specs.Words.{rowCount, sheetOf}
 use Rattle.rows.proofs.Checks.{sound-row}
 use Rattle.analysis.specs.Inner.{Ready, Prepared, termOf, reach, roomOf, Rooms, Jumped, pendingSum, PendingRows, Excluded, Onward}
-use Rattle.analysis.proofs.Limits.{bound-in-range, term-within-cap}
+use Rattle.analysis.proofs.Limits.{bound-in-range}
 use Rattle.analysis.proofs.Shares.{prepared-small, right-from-terms}
 
 -- What holds in both cases holds of what a term comes to for certain.
@@ -97,17 +97,6 @@ module _ (words R taken : List ℕ) (row count m : ℕ) (prepared : Prepared wor
             (le-trans (room-within words R taken x cap _) (prepared-small words R taken row count m prepared _ (places .inside i h)));
       }
 
-  -- A sum whose m-th part is not below the cap fills m times the cap.
-  pub fills : (sum cap : ℕ) → cap ≤ sum / m → m * cap ≤ sum
-  fills sum cap whole = rw (mul-comm m cap) (le-div-iff-mul-le (prepared .some-processor) .0 whole)
-
-  -- Terms that fill m times the cap are of rows enough for m processors.
-  pub few-processors : (x cap : ℕ) → 1 ≤ cap → m * cap ≤ total (termOf (sheetOf words) R taken x cap) count → m ≤ 64
-  few-processors x cap some-cap full =
-      let most : total (termOf (sheetOf words) R taken x cap) count ≤ count * cap =
-      total-within (termOf (sheetOf words) R taken x cap) cap count (λ i h. term-within-cap (sheetOf words) R taken x cap i) in
-      le-trans (le-of-mul-le-mul-right (le-trans full most) some-cap) (omega (arith, prepared .counted, prepared .ready .rows .at-most))
-
   -- A jump over the rooms excludes all that it passes.
   pub jump-excludes : (pending room before : List ℕ) (left settled x cap gain most far : ℕ) → Places pending left count
       → room ≡ listed (over (roomOf (sheetOf words) R taken x cap) pending) left ++ drop left before
@@ -130,9 +119,10 @@ module _ (words R taken : List ℕ) (row count m : ℕ) (prepared : Prepared wor
 
   -- X stands where the terms do not fill m times the cap.
   pub right-stands : (own sum x : ℕ) → own ≡ (sheetOf words) .cost row → own ≤ x → x ≤ (sheetOf words) .deadline row
-      → sum ≡ total (termOf (sheetOf words) R taken x (x - own + 1)) count → sum / m < x - own + 1 → rtaRight (sheetOf words) m row R x ≤ x
+      → sum ≡ total (termOf (sheetOf words) R taken x (x - own + 1)) count → sum < m * (x - own + 1) → rtaRight (sheetOf words) m row R x ≤ x
   right-stands own sum x is-cost from within is-sum short =
       let right = right-from-terms words R taken row count m prepared own sum x is-cost within is-sum in
+      let quotient : sum / m < x - own + 1 = div-lt-iff-lt-mul (prepared .some-processor) .1 (rw (mul-comm (x - own + 1) m) short) in
       omega (arith, right)
 
   -- And it is below its value where they do.

@@ -6,31 +6,42 @@ use native.Mathlib.Nat.{add-zero, add-assoc, le-antisymm, le-trans}
 use native.Mathlib.Omega.{arith}
 use lib.ListN.{length, getD}
 use Rattle.laws.specs.Sum.{total}
-use Rattle.laws.specs.Fill.{listed}
-use Rattle.laws.specs.Places.{over}
+use Rattle.laws.specs.Places.{over, Places}
 use Rattle.laws.proofs.Sum.{total-fewer, total-within}
-use Rattle.laws.proofs.Places.{all-places, over-all, Sifted}
+use Rattle.laws.proofs.Places.{Staying, Sifted}
+use Rattle.model.specs.Interference.{workOf}
 use Rattle.rows.specs.Words.{rowCount, sheetOf}
-use Rattle.analysis.specs.Inner.{Ready, termOf, roomOf, pendingSum, PendingRows}
-use Rattle.analysis.proofs.Limits.{term-within-cap}
+use Rattle.rows.proofs.Checks.{sound-row}
+use Rattle.analysis.specs.Inner.{Ready, termOf, pendingSum, PendingRows, LargeShares}
+use Rattle.analysis.proofs.Limits.{bound-in-range, work-positive, term-within-cap}
 use Rattle.analysis.proofs.Exclusion.{term-rises}
 
 module _ (words R taken : List ℕ) where
-  -- The terms d steps above X.
-  pub later : (x cap d : ℕ) → ℕ → ℕ
-  later x cap d = termOf (sheetOf words) R taken (x + d) (cap + d)
-
   -- A row that adds its whole share adds it ever after.
   pub whole-share : Ready words R → (i x cap : ℕ) → i < rowCount words → getD taken i 0 ≤ termOf (sheetOf words) R taken x cap i
-      → (d : ℕ) → later x cap d i ≡ getD taken i 0
-  unfolding termOf later
+      → (d : ℕ) → termOf (sheetOf words) R taken (x + d) (cap + d) i ≡ getD taken i 0
+  unfolding termOf
   whole-share ready i x cap inside whole d =
       le-antisymm (omega arith) (le-trans whole (omega (arith, term-rises words R taken ready i x cap d inside)))
 
-  -- At first every row is pending.
-  pub pending-first : (count x cap : ℕ) → PendingRows (sheetOf words) R taken (listed (λ i. i) count) count count 0 x cap
-  pending-first count x cap =
-      record { places = all-places count; same = λ d. omega (arith, over-all (termOf (sheetOf words) R taken (x + d) (cap + d)) count) }
+  -- A share of 0 or 1 is added from the first.
+  pub small-share : Ready words R → (i x cap : ℕ) → i < rowCount words → 1 ≤ x → 1 ≤ cap → getD taken i 0 ≤ 1
+      → termOf (sheetOf words) R taken x cap i ≡ getD taken i 0
+  unfolding termOf workOf
+  small-share ready i x cap inside window some-cap small =
+      let s = sheetOf words in
+      let some-cost : 1 ≤ s .cost i = sound-row words (ready .rows) i inside .positive in
+      let some-work = work-positive (s .cost i) (s .period i) (getD R i 0) x some-cost (bound-in-range words R ready i inside .0) window in
+      omega arith
+
+  -- So the rows with larger shares are pending at first.
+  pub pending-first : Ready words R → (pending : List ℕ) (left settled x cap : ℕ) → 1 ≤ x → 1 ≤ cap
+      → LargeShares taken pending (rowCount words) left settled → PendingRows (sheetOf words) R taken pending (rowCount words) left settled x cap
+  pending-first ready pending left settled x cap window some-cap large =
+      record {
+        places = large .places;
+        same = λ d. large .same _ (λ i h small. small-share ready i (x + d) (cap + d) h (omega arith) (omega arith) small);
+      }
 
   module _ (pending : List ℕ) (count left settled x cap : ℕ) (rows : PendingRows (sheetOf words) R taken pending count left settled x cap) where
     -- What is added at X itself.
@@ -48,27 +59,29 @@ module _ (words R taken : List ℕ) where
         let later-cap : cap + (next - x) ≡ next - own + 1 = omega arith in
         rw (there, later-cap) at (pending-later (next - x))
 
+    -- The rows that stay of the first so many are settled for with the others.
+    abbrev pub Sifting : List ℕ → ℕ → ℕ → ℕ → Type 0
+    Sifting now passed stay full =
+        (d : ℕ) → Sifted (termOf (sheetOf words) R taken (x + d) (cap + d)) (λ j. getD pending j 0) now settled passed stay full
+
     -- Those that stay when all were passed are pending.
-    pub pending-sifted : (now : List ℕ) (stay full : ℕ) → Sifted (later x cap) pending now count settled left stay full
+    pub pending-sifted : (now : List ℕ) (stay full : ℕ) → length now ≡ length pending → Staying now count left stay → Sifting now left stay full
         → PendingRows (sheetOf words) R taken now count stay full x cap
-    unfolding later
-    pending-sifted now stay full sifted =
+    pending-sifted now stay full sized staying sifted =
         record {
           places = record {
-            there = omega (arith, sifted .sized, sifted .fewer, rows .places .there);
-            few = omega (arith, sifted .fewer, rows .places .few);
-            inside = sifted .inside;
+            there = omega (arith, sized, staying .fewer, rows .places .there);
+            few = omega (arith, staying .fewer, rows .places .few);
+            inside = staying .inside;
           };
-          same = λ d. sifted .same d ∙ rows .same d;
+          same = λ d. sifted d ∙ rows .same d;
         }
 
     -- What is settled on the way is no more than all add.
-    pub sifted-within : (now : List ℕ) (passed stay full : ℕ) → passed ≤ left → Sifted (later x cap) pending now count settled passed stay full
-        → full ≤ count * cap
-    unfolding later
+    pub sifted-within : (now : List ℕ) (passed stay full : ℕ) → passed ≤ left → Sifting now passed stay full → full ≤ count * cap
     sifted-within now passed stay full on-the-way sifted =
-        let here : full + total (over (termOf (sheetOf words) R taken x cap) now) stay ≡ settled + total (over (termOf (sheetOf words) R taken x cap) pending) passed =
-        rw (add-zero x, add-zero cap) at (sifted .same 0) in
+        let here : Sifted (termOf (sheetOf words) R taken x cap) (λ j. getD pending j 0) now settled passed stay full =
+        rw (add-zero x, add-zero cap) at (sifted 0) in
         omega (
           arith,
           here,

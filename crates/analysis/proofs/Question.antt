@@ -101,6 +101,7 @@ module _ (words : List ℕ) (m method : ℕ) (R : List ℕ) (row : ℕ) where
     pub ready : Ready words R
     pub there : row < rowCount words
     pub processors : 1 ≤ m
+    pub few : m ≤ 64
 
   pub asked : (oneRowRefusal words m method R row) .number ≡ 0 → Asked
   unfolding oneRowRefusal questionRefusal
@@ -109,11 +110,8 @@ module _ (words : List ℕ) (m method : ℕ) (R : List ℕ) (row : ℕ) where
       let facts = checks.accepted words (firstOf (processorsRefusal m) (methodRefusal method)) (passed .0) in
       let between = checks.first-of-zero (processorsRefusal m) (methodRefusal method) (facts .nothing-between) in
       let ready = question-ready words R row (facts .rows) (is-allowed (questionAllowed (sheetOf words) R row) (passed .1)) in
-      record {
-        ready = ready .0;
-        there = ready .1;
-        processors = allowed-processors m (checks.processors-allowed m (between .0)) .0;
-      }
+      let allowed = allowed-processors m (checks.processors-allowed m (between .0)) in
+      record { ready = ready .0; there = ready .1; processors = allowed .0; few = allowed .1 }
     where
       is-allowed : (b : Bool) → (pick b notRefused (refused 9 0)) .number ≡ 0 → b ≡ true
       is-allowed true zero = refl

@@ -105,6 +105,11 @@ pub record PendingRows (s : Sheet) (R taken pending : List ℕ) (count left sett
   pub places : Places pending left count
   pub same : (d : ℕ) → pendingSum s R taken pending left settled (x + d) (cap + d) ≡ total (termOf s R taken (x + d) (cap + d)) count
 
+-- Places of the rows whose share is above 1. Whatever gives the others their share, it is settled what they give.
+pub record LargeShares (taken pending : List ℕ) (count left settled : ℕ) : Type 0 where
+  pub places : Places pending left count
+  pub same : (f : ℕ → ℕ) → ((i : ℕ) → i < count → getD taken i 0 ≤ 1 → f i ≡ getD taken i 0) → settled + total (over f pending) left ≡ total f count
+
 -- No X from x to x + far solves the equation: at each of them the terms fill m times the cap.
 abbrev pub Excluded : Sheet → List ℕ → List ℕ → List ℕ → ℕ → ℕ → ℕ → ℕ → ℕ → ℕ → Type 0
 Excluded s R taken pending left settled m x cap far = (d : ℕ) → d ≤ far → m * (cap + d) ≤ pendingSum s R taken pending left settled (x + d) (cap + d)

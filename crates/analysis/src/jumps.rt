@@ -17,7 +17,7 @@ ghost use Rattle.laws.specs.Places.{over, Places};
 ghost use Rattle.model.specs.Interference.{rtaRight};
 ghost use Rattle.model.specs.Answer.{rtaAnswer};
 ghost use Rattle.rows.specs.Words.{rowCount, sheetOf, foundOf};
-ghost use Rattle.analysis.specs.Inner.{Ready, Prepared, termOf, reach, roomOf, Rooms, Jumped, lineOf, PendingRows, Excluded, Onward};
+ghost use Rattle.analysis.specs.Inner.{Ready, Prepared, termOf, reach, roomOf, Rooms, Jumped, lineOf, PendingRows, LargeShares, Excluded, Onward};
 
 // What another row adds at X, and its room: how much more it adds for certain, one a step.
 pub(crate) struct Rise {
@@ -77,15 +77,27 @@ pub(crate) fn term_and_room(
     }
 }
 
-// The places of all rows, in their order.
-pub(crate) fn fill_places(pending: &mut [u32], count: u32)
-    requires { ⌜ length (now pending) ≡ count ⌝ }
-    ensures { λ r. ⌜ now (pending .exit) ≡ listed (λ i. i) count ⌝ }
+// The places of the rows whose share is above 1. A share of 0 or 1 is added whole at every X.
+pub(crate) fn first_pending(taken: &[u32], pending: &mut [u32], count: u32) -> Pending
+    requires { ⌜ (length (now taken) ≡ count) × (length (now pending) ≡ count) × (count ≤ 64) ⌝ }
+    ensures { λ r. ⌜ LargeShares (now (taken .entry)) (now (pending .exit)) count (r .left) (r .settled) ⌝ }
 {
+    let mut settled = 0;
+    let mut left = 0;
     let mut place = 0;
     while place < count {
-        pending[place as usize] = place;
+        let share = taken[place as usize];
+        pending[left as usize] = place;
+        if 1 < share {
+            left += 1;
+        } else {
+            settled += share;
+        }
         place += 1;
+    }
+    Pending {
+        left: left,
+        settled: settled,
     }
 }
 
@@ -329,17 +341,18 @@ pub(crate) fn onward(
     try_far: bool,
     room: &mut [u32],
 ) -> u32
-    requires { ⌜ Prepared (now words) (now bounds) (now taken) row (rowCount (now words)) processors × PendingRows (sheetOf (now words)) (now bounds) (now taken) (now pending) (rowCount (now words)) (rows .left) (rows .settled) x (x - (sheetOf (now words)) .cost row + 1) × ((sheetOf (now words)) .cost row ≤ x) × (x ≤ (sheetOf (now words)) .deadline row) × (length (now room) ≡ rowCount (now words)) ⌝ }
+    requires { ⌜ Prepared (now words) (now bounds) (now taken) row (rowCount (now words)) processors × PendingRows (sheetOf (now words)) (now bounds) (now taken) (now pending) (rowCount (now words)) (rows .left) (rows .settled) x (x - (sheetOf (now words)) .cost row + 1) × ((sheetOf (now words)) .cost row ≤ x) × (x ≤ (sheetOf (now words)) .deadline row) × (length (now room) ≡ rowCount (now words)) × (processors ≤ 64) ⌝ }
     ensures { λ r. ⌜ Onward (rtaRight (sheetOf (now (words .entry))) processors row (now (bounds .entry))) x r ⌝ }
 {
     let own = cost(words, row);
     let cap = x - own + 1;
     let sum = rows.settled + fill_rooms(words, bounds, taken, pending, rows.left, x, cap, room);
-    if sum / processors < cap {
+    let supply = processors * cap;
+    if sum < supply {
         return x;
     }
     let most = deadline(words, row) - x;
-    let gain = sum - processors * cap;
+    let gain = sum - supply;
     let near = jump(room, rows.left, gain, processors, most);
     if !try_far {
         return x + near + 1;
@@ -371,21 +384,17 @@ pub(crate) fn rta_quickly(
     pending: &mut [u32],
     room: &mut [u32],
 ) -> Found
-    requires { ⌜ Prepared (now words) (now bounds) (now taken) row count processors × (length (now pending) ≡ count) × (length (now room) ≡ count) ⌝ }
+    requires { ⌜ Prepared (now words) (now bounds) (now taken) row count processors × (length (now pending) ≡ count) × (length (now room) ≡ count) × (processors ≤ 64) ⌝ }
     ensures { λ r. ⌜ r ≡ foundOf (rtaAnswer (sheetOf (now (words .entry))) processors row (now (bounds .entry))) ⌝ }
 {
     let own = cost(words, row);
     let top = deadline(words, row);
-    fill_places(pending, count);
-    let mut rows = Pending {
-        left: count,
-        settled: 0,
-    };
+    let mut rows = first_pending(taken, pending, count);
     let mut x = own;
     let mut step = 0u32;
     loop {
-        rows = still_pending(words, bounds, taken, pending, rows, x, x - own + 1, step);
         step += 1;
+        rows = still_pending(words, bounds, taken, pending, rows, x, x - own + 1, step);
         let try_far = step % 16 == 0;
         let next = onward(
             words,

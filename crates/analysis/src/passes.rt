@@ -1,7 +1,7 @@
 // Passes over all rows, and the two engines that repeat them until one changes nothing.
 use crate::ray::hasten;
 use crate::ray::note_drops;
-use crate::response::answer_quickly;
+use crate::response::answer_quickly_in;
 use crate::response::answer_row;
 use rows::Found;
 use rows::deadline;
@@ -67,22 +67,35 @@ pub(crate) struct Outcome {
     pub seen: u64,
 }
 
-// A sweep: rows 0 upward, each new bound used immediately.
+// A sweep: rows 0 upward, each new bound used immediately, with space for what a turn works out of the other rows.
 pub(crate) fn sweep_rows(
     words: &[u32],
     bounds: &mut [u32],
     processors: u32,
     method: u32,
     count: u32,
+    taken: &mut [u32],
+    pending: &mut [u32],
+    room: &mut [u32],
 ) -> Outcome
-    requires { ⌜ Ready (now words) (now bounds) × (count ≡ rowCount (now words)) × (1 ≤ processors) × Held (sheetOf (now words)) (askOf (now words) processors method) (now bounds) ⌝ }
+    requires { ⌜ Ready (now words) (now bounds) × (count ≡ rowCount (now words)) × (1 ≤ processors) × Held (sheetOf (now words)) (askOf (now words) processors method) (now bounds) × (processors ≤ 64) × (length (now taken) ≡ count) × (length (now pending) ≡ count) × (length (now room) ≡ count) ⌝ }
     ensures { λ r. ⌜ AfterPass (sheetOf (now (words .entry))) (askOf (now (words .entry)) processors method) (sweep (sheetOf (now (words .entry))) (askOf (now (words .entry)) processors method) (rowCount (now (words .entry)))) (now (bounds .entry)) (now (bounds .exit)) (r .moved) (r .seen) ⌝ }
 {
     let mut moved = false;
     let mut seen = 0;
     let mut row = 0;
     while row < count {
-        let found = answer_quickly(words, bounds, row, count, processors, method);
+        let found = answer_quickly_in(
+            words,
+            bounds,
+            row,
+            count,
+            processors,
+            method,
+            taken,
+            pending,
+            room,
+        );
         let bound = bound_or(found, deadline(words, row));
         seen = with_mark(seen, found, row);
         if bounds[row as usize] != bound {
@@ -177,18 +190,30 @@ pub(crate) fn settle_at_once(
     bounds: &mut [u32],
     before: &mut [u32],
     drops: &mut [u32],
+    taken: &mut [u32],
+    pending: &mut [u32],
+    room: &mut [u32],
     processors: u32,
     method: u32,
     count: u32,
 ) -> u64
-    requires { ⌜ Ready (now words) (now bounds) × (count ≡ rowCount (now words)) × (1 ≤ processors) × Held (sheetOf (now words)) (askOf (now words) processors method) (now bounds) × (length (now before) ≡ count) × (length (now drops) ≡ count) × (processors ≤ 64) ⌝ }
+    requires { ⌜ Ready (now words) (now bounds) × (count ≡ rowCount (now words)) × (1 ≤ processors) × Held (sheetOf (now words)) (askOf (now words) processors method) (now bounds) × (length (now before) ≡ count) × (length (now drops) ≡ count) × (processors ≤ 64) × (length (now taken) ≡ count) × (length (now pending) ≡ count) × (length (now room) ≡ count) ⌝ }
     ensures seen { λ r. ⌜ r ≡ marks (sheetOf (now (words .entry))) (askOf (now (words .entry)) processors method) (atOnce (sheetOf (now (words .entry))) (askOf (now (words .entry)) processors method)) ⌝ }
     ensures settled { λ r. ⌜ now (bounds .exit) ≡ atOnce (sheetOf (now (words .entry))) (askOf (now (words .entry)) processors method) ⌝ }
 {
     let mut sweeps = 0;
     loop {
         copy_back(bounds, before, count);
-        let outcome = sweep_rows(words, bounds, processors, method, count);
+        let outcome = sweep_rows(
+            words,
+            bounds,
+            processors,
+            method,
+            count,
+            taken,
+            pending,
+            room,
+        );
         let moved = outcome.moved;
         if !moved {
             return outcome.seen;
@@ -232,12 +257,18 @@ pub(crate) fn run_at_once(
     fill_deadlines(words, bounds, count);
     let mut before = [0u32; 64];
     let mut drops = [0u32; 64];
+    let mut taken = [0u32; 64];
+    let mut pending = [0u32; 64];
+    let mut room = [0u32; 64];
     let end = count as usize;
     settle_at_once(
         words,
         bounds,
         &mut before[..end],
         &mut drops[..end],
+        &mut taken[..end],
+        &mut pending[..end],
+        &mut room[..end],
         processors,
         method,
         count,

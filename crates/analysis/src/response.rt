@@ -193,7 +193,7 @@ pub(crate) fn answer_quickly_in(
     pending: &mut [u32],
     room: &mut [u32],
 ) -> Found
-    requires { ⌜ Ready (now words) (now bounds) × (row < rowCount (now words)) × (count ≡ rowCount (now words)) × (1 ≤ processors) × (length (now taken) ≡ count) × (length (now pending) ≡ count) × (length (now room) ≡ count) ⌝ }
+    requires { ⌜ Ready (now words) (now bounds) × (row < rowCount (now words)) × (count ≡ rowCount (now words)) × (1 ≤ processors) × (length (now taken) ≡ count) × (length (now pending) ≡ count) × (length (now room) ≡ count) × (processors ≤ 64) ⌝ }
     ensures { λ r. ⌜ r ≡ foundOf (answer (methodOf method) (sheetOf (now (words .entry))) processors row (now (bounds .entry))) ⌝ }
 {
     fill_shares(words, bounds, row, count, taken);
@@ -213,7 +213,7 @@ pub(crate) fn answer_quickly(
     processors: u32,
     method: u32,
 ) -> Found
-    requires { ⌜ Ready (now words) (now bounds) × (row < rowCount (now words)) × (count ≡ rowCount (now words)) × (1 ≤ processors) ⌝ }
+    requires { ⌜ Ready (now words) (now bounds) × (row < rowCount (now words)) × (count ≡ rowCount (now words)) × (1 ≤ processors) × (processors ≤ 64) ⌝ }
     ensures { λ r. ⌜ r ≡ foundOf (answer (methodOf method) (sheetOf (now (words .entry))) processors row (now (bounds .entry))) ⌝ }
 {
     let mut taken = [0u32; 64];

@@ -35,7 +35,7 @@ cast-count c = omega (arith, facts (c .before) .ready .rows .at-most)
 answer-quickly-requires : tie.Need-answer-quickly-requires
 answer-quickly-requires c κs =
     let known = facts (c .before) in
-    (known .ready, known .there, c .row-count .ensures, known .processors)
+    (known .ready, known .there, c .row-count .ensures, known .processors, known .few)
 
 returns-2 : tie.Need-returns-2
 returns-2 c =

@@ -10,7 +10,7 @@ use Rattle.rows.proofs.Checks.{sound-row}
 use Rattle.analysis.specs.Inner.{termOf, PendingRows, Excluded, Onward}
 use Rattle.analysis.proofs.Shares.{prepared-length, terms-sum-small}
 use Rattle.analysis.proofs.Pending.{pending-now}
-use Rattle.analysis.proofs.Exclusion.{rooms-filled, fills, few-processors, jump-excludes, right-stands, past-excluded, stays-onward}
+use Rattle.analysis.proofs.Exclusion.{rooms-filled, jump-excludes, right-stands, past-excluded, stays-onward}
 use native.Mathlib.Omega.{arith}
 use borrow.Author.Needs.{needs}
 use Rattle.analysis.proofs.jumps.onward.Statement.{statement}
@@ -53,8 +53,12 @@ sum-small c = terms-sum-small _ _ _ _ _ _ (c .before .before .before .before .be
 add-sum : tie.Need-add-sum
 add-sum c = omega (arith, is-sum (c .before .before .before), sum-small (c .before .before .before))
 
-div-if1 : tie.Need-div-if1
-div-if1 c = search needs
+-- What the processors supply is within 64 millions.
+supply-small : (c : tie.After-cost) → c .before .before .before .before .before .before .args .processors * (c .before .before .before .before .before .before .args .x - c .cost .result + 1) ≤ 64_000_000
+supply-small c = mul-le-mul (c .before .before .before .before .before .before .pre .5) (cap-small c)
+
+mul-supply : tie.Need-mul-supply
+mul-supply c = omega (arith, supply-small (c .before .before .before .before .before))
 
 same-length : tie.Need-same-length
 same-length c = search needs
@@ -73,27 +77,18 @@ deadline-requires c κs = search needs
 sub-most : tie.Need-sub-most
 sub-most c = search needs
 
--- Past the test the sum fills the processors' time up to the cap, and so there are at most as many processors as rows.
-full : (c : tie.Else1) → c .before .before .before .before .before .before .before .before .before .before .before .before .args .processors * (c .before .before .before .before .before .before .before .before .before .before .before .before .args .x - c .before .before .before .before .before .before .cost .result + 1) ≤ c .before .before .before .before .before .before .before .before .before .before .before .before .args .rows .settled + c .before .before .before .before .fill-rooms .result
-full c = fills _ _ _ _ _ _ (c .before .before .before .before .before .before .before .before .before .before .before .before .pre .0) _ _ (c .if1 .left)
-
-few : (c : tie.Else1) → c .before .before .before .before .before .before .before .before .before .before .before .before .args .processors ≤ 64
-few c = few-processors _ _ _ _ _ _ (c .before .before .before .before .before .before .before .before .before .before .before .before .pre .0) (c .before .before .before .before .before .before .before .before .before .before .before .before .args .x) (c .before .before .before .before .before .before .before .before .before .before .before .before .args .x - c .before .before .before .before .before .before .cost .result + 1) (omega arith) (rw (← is-sum (c .before .before .before .before)) (full c))
-
-mul-gain : tie.Need-mul-gain
-mul-gain c = omega (arith, full (c .before), is-sum (c .before .before .before .before .before), sum-small (c .before .before .before .before .before))
-
-sub-gain : tie.Need-sub-gain
-sub-gain c = full (c .before)
-
 jump-requires : tie.Need-jump-requires
 jump-requires c κs = let sized = sound-row (now (c .before .before .before .before .before .before .before .before .before .before .before .before .before .before .args .words)) (c .before .before .before .before .before .before .before .before .before .before .before .before .before .before .pre .0 .ready .rows) (c .before .before .before .before .before .before .before .before .before .before .before .before .before .before .args .row) (c .before .before .before .before .before .before .before .before .before .before .before .before .before .before .pre .0 .inside) in
     let told = c .before .before .before .before .before .before in (
       rooms-filled _ _ _ _ _ _ (c .before .before .before .before .before .before .before .before .before .before .before .before .before .before .pre .0) _ _ _ _ (c .before .before .before .before .before .before .before .before .before .before .before .before .before .before .args .x) _ (c .before .before .before .before .before .before .before .before .before .before .before .before .before .before .pre .1 .places) (omega (arith, c .before .before .before .before .before .before .before .before .before .before .before .before .before .before .pre .4, c .before .before .before .before .before .before .before .before .before .before .before .before .before .before .pre .1 .places .few)) (c .before .before .before .before .before .before .fill-rooms .ensures .1),
       omega (arith, is-sum told, sum-small told),
-      few (c .before .before),
+      c .before .before .before .before .before .before .before .before .before .before .before .before .before .before .pre .5,
       omega (arith, c .before .deadline .ensures),
     )
+
+-- Past the test the sum fills the supply.
+full : (c : tie.Else1) → c .before .before .before .before .before .before .before .before .before .before .before .before .args .processors * (c .before .before .before .before .before .before .before .before .before .before .before .before .args .x - c .before .before .before .before .before .before .cost .result + 1) ≤ c .before .before .before .before .before .before .before .before .before .before .before .before .args .rows .settled + c .before .before .before .before .fill-rooms .result
+full c = omega (arith, c .if1 .left)
 
 -- The jump excludes all that it passes.
 excluded : (c : tie.After-jump) → Excluded (sheetOf (now (c .before .before .before .before .before .before .before .before .before .before .before .before .before .before .before .args .words))) (now (c .before .before .before .before .before .before .before .before .before .before .before .before .before .before .before .args .bounds)) (now (c .before .before .before .before .before .before .before .before .before .before .before .before .before .before .before .args .taken)) (now (c .before .before .before .before .before .before .before .before .before .before .before .before .before .before .before .args .pending)) (c .before .before .before .before .before .before .before .before .before .before .before .before .before .before .before .args .rows .left) (c .before .before .before .before .before .before .before .before .before .before .before .before .before .before .before .args .rows .settled) (c .before .before .before .before .before .before .before .before .before .before .before .before .before .before .before .args .processors) (c .before .before .before .before .before .before .before .before .before .before .before .before .before .before .before .args .x) (c .before .before .before .before .before .before .before .before .before .before .before .before .before .before .before .args .x - c .before .before .before .before .before .before .before .before .before .cost .result + 1) (c .jump .result)
@@ -130,7 +125,7 @@ far-jump-requires c κs = let sized = sound-row (now (c .before .before .before 
       prepared-length _ _ _ _ _ _ (c .before .before .before .before .before .before .before .before .before .before .before .before .before .before .before .before .pre .0),
       c .before .before .before .before .before .before .before .before .before .before .before .before .before .before .before .before .pre .1 .places,
       omega (arith, is-sum (c .before .before .before .before .before .before .before .before), sum-small (c .before .before .before .before .before .before .before .before)),
-      few (c .before .before .before .before),
+      c .before .before .before .before .before .before .before .before .before .before .before .before .before .before .before .before .pre .5,
       small,
       omega (arith, small, c .before .before .before .before .before .before .before .before .before .before .cost .ensures, c .before .before .before .before .before .before .before .before .before .before .before .before .before .before .before .before .pre .2),
       c .before .jump .ensures .within,
@@ -158,13 +153,11 @@ onward-spec =
     add-cap
     fill-rooms-requires
     add-sum
-    div-if1
+    mul-supply
     same-length
     returns
     deadline-requires
     sub-most
-    mul-gain
-    sub-gain
     jump-requires
     add-result
     add-result-2

@@ -24,7 +24,7 @@ Inv-loop words bounds taken row count processors pending₀ room₀ own top rows
     Climbed (rtaRight (sheetOf words) processors row bounds) ((sheetOf words) .cost row) x
     × (x ≤ (sheetOf words) .deadline row)
     × (length room ≡ count)
-    × (step ≤ x)
+    × (step < x)
     × (length pending ≡ count)
     × PendingRows (sheetOf words) bounds taken pending (rowCount words) (rows .left) (rows .settled) x (x - (sheetOf words) .cost row + 1)
 
@@ -37,8 +37,8 @@ cost-requires c κs = search needs
 deadline-requires : tie.Need-deadline-requires Inv-loop μ-loop
 deadline-requires c κs = search needs
 
-fill-places-requires : tie.Need-fill-places-requires Inv-loop μ-loop
-fill-places-requires c κs = c .before .before .before .before .before .before .before .before .pre .1
+first-pending-requires : tie.Need-first-pending-requires Inv-loop μ-loop
+first-pending-requires c κs = (prepared-length _ _ _ _ _ _ (c .before .before .before .before .before .before .before .before .pre .0), c .before .before .before .before .before .before .before .before .pre .1, omega (arith, c .before .before .before .before .before .before .before .before .pre .0 .counted, c .before .before .before .before .before .before .before .before .pre .0 .ready .rows .at-most))
 
 loop-holds : tie.Need-loop-holds Inv-loop μ-loop
 loop-holds c = let sized = sound-row (now (c .before .before .before .before .before .before .before .before .before .before .before .args .words)) (c .before .before .before .before .before .before .before .before .before .before .before .pre .0 .ready .rows) (c .before .before .before .before .before .before .before .before .before .before .before .args .row) (c .before .before .before .before .before .before .before .before .before .before .before .pre .0 .inside) in
@@ -47,9 +47,12 @@ loop-holds c = let sized = sound-row (now (c .before .before .before .before .be
       sized .by-deadline,
       c .before .before .before .before .before .before .before .before .before .before .before .pre .2,
       omega arith,
-      c .before .before .fill-places .kept .0 ∙ c .before .before .before .before .before .before .before .before .before .before .before .pre .1,
-      rw (c .before .before .fill-places .ensures, c .before .before .before .before .before .before .before .before .before .before .before .pre .0 .counted) (pending-first _ _ _ _ _ _),
+      c .before .before .first-pending .kept .1 .0 ∙ c .before .before .before .before .before .before .before .before .before .before .before .pre .1,
+      pending-first _ _ _ (c .before .before .before .before .before .before .before .before .before .before .before .pre .0 .ready) _ _ _ _ _ (omega arith) (omega arith) (rw (c .before .before .before .before .before .before .before .before .before .before .before .pre .0 .counted) at (c .before .before .first-pending .ensures)),
     )
+
+add-step : tie.Need-add-step Inv-loop μ-loop
+add-step c = let sized = sound-row (now (c .before .before .before .before .before .before .before .before .before .before .before .before .args .words)) (c .before .before .before .before .before .before .before .before .before .before .before .before .pre .0 .ready .rows) (c .before .before .before .before .before .before .before .before .before .before .before .before .args .row) (c .before .before .before .before .before .before .before .before .before .before .before .before .pre .0 .inside) in omega (arith, c .loop .inv .1, c .loop .inv .3)
 
 sub-still-pending : tie.Need-sub-still-pending Inv-loop μ-loop
 sub-still-pending c = omega (arith, c .before .before .before .before .before .before .before .cost .ensures, c .before .loop .inv .0 .from)
@@ -67,9 +70,6 @@ still-pending-requires c κs = let sized = sound-row (now (c .before .before .be
   omega (arith, c .before .loop .inv .1, c .before .before .before .before .before .before .before .cost .ensures),
 )
 
-add-step : tie.Need-add-step Inv-loop μ-loop
-add-step c = let sized = sound-row (now (c .before .before .before .before .before .before .before .before .before .before .before .before .before .before .before .before .args .words)) (c .before .before .before .before .before .before .before .before .before .before .before .before .before .before .before .before .pre .0 .ready .rows) (c .before .before .before .before .before .before .before .before .before .before .before .before .before .before .before .before .args .row) (c .before .before .before .before .before .before .before .before .before .before .before .before .before .before .before .before .pre .0 .inside) in omega (arith, c .before .before .before .before .loop .inv .1, c .before .before .before .before .loop .inv .3)
-
 onward-requires : tie.Need-onward-requires Inv-loop μ-loop
 onward-requires c κs = (
   prepared-counted _ _ _ _ _ _ (c .before .before .before .before .before .before .before .before .before .before .before .before .before .before .before .before .before .before .pre .0),
@@ -77,6 +77,7 @@ onward-requires c κs = (
   c .before .before .before .before .before .before .loop .inv .0 .from,
   c .before .before .before .before .before .before .loop .inv .1,
   c .before .before .before .before .before .before .loop .inv .2 ∙ c .before .before .before .before .before .before .before .before .before .before .before .before .before .before .before .before .before .before .pre .0 .counted,
+  c .before .before .before .before .before .before .before .before .before .before .before .before .before .before .before .before .before .before .pre .3,
 )
 
 same-length : tie.Need-same-length Inv-loop μ-loop
@@ -132,12 +133,12 @@ rta-quickly-spec =
     μ-loop
     cost-requires
     deadline-requires
-    fill-places-requires
+    first-pending-requires
     loop-holds
+    add-step
     sub-still-pending
     add-still-pending
     still-pending-requires
-    add-step
     onward-requires
     same-length
     same-length-2

@@ -32,11 +32,29 @@ array-borrow-prefix-drops c = search needs
 slice-aggregate-settle-at-once-2 : tie.Need-slice-aggregate-settle-at-once-2
 slice-aggregate-settle-at-once-2 c = sym (space (c .before .before .before .before .before .before .before .before .before))
 
+array-borrow-prefix-taken : tie.Need-array-borrow-prefix-taken
+array-borrow-prefix-taken c = search needs
+
+slice-aggregate-settle-at-once-3 : tie.Need-slice-aggregate-settle-at-once-3
+slice-aggregate-settle-at-once-3 c = sym (space (c .before .before .before .before .before .before .before .before .before .before))
+
+array-borrow-prefix-pending : tie.Need-array-borrow-prefix-pending
+array-borrow-prefix-pending c = search needs
+
+slice-aggregate-settle-at-once-4 : tie.Need-slice-aggregate-settle-at-once-4
+slice-aggregate-settle-at-once-4 c = sym (space (c .before .before .before .before .before .before .before .before .before .before .before))
+
+array-borrow-prefix-room : tie.Need-array-borrow-prefix-room
+array-borrow-prefix-room c = search needs
+
+slice-aggregate-settle-at-once-5 : tie.Need-slice-aggregate-settle-at-once-5
+slice-aggregate-settle-at-once-5 c = sym (space (c .before .before .before .before .before .before .before .before .before .before .before .before))
+
 settle-at-once-requires : tie.Need-settle-at-once-requires
 settle-at-once-requires c κs =
-    let p = c .before .before .before .before .before .before .before .before .before in
+    let p = c .before .before .before .before .before .before .before .before .before .before .before .before in
     let words = now (p .args .words) in
-    rw (c .before .before .before .before .before .fill-deadlines .ensures) (
+    rw (c .before .before .before .before .before .before .before .before .fill-deadlines .ensures) (
       deadlines-ready words (p .pre .0),
       p .pre .1,
       p .pre .2,
@@ -44,6 +62,9 @@ settle-at-once-requires c κs =
       space p,
       space p,
       p .pre .4,
+      space p,
+      space p,
+      space p,
     )
 
 same-length : tie.Need-same-length
@@ -61,6 +82,12 @@ run-at-once-spec =
     slice-aggregate-settle-at-once
     array-borrow-prefix-drops
     slice-aggregate-settle-at-once-2
+    array-borrow-prefix-taken
+    slice-aggregate-settle-at-once-3
+    array-borrow-prefix-pending
+    slice-aggregate-settle-at-once-4
+    array-borrow-prefix-room
+    slice-aggregate-settle-at-once-5
     settle-at-once-requires
     same-length
     returns)

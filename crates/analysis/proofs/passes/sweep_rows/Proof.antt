@@ -14,27 +14,33 @@ use Rattle.analysis.proofs.passes.sweep_rows.Statement.{statement}
 use Rattle.analysis.proofs.passes.sweep_rows.Tie as tie
 
 abbrev Inv-loop : tie.InvT-loop
-Inv-loop words bounds₀ processors method count moved₀ seen₀ row₀ bounds moved seen row =
-    (length bounds ≡ count) × Sweeping (sheetOf words) (askOf words processors method) bounds₀ bounds moved seen row
+Inv-loop words bounds₀ processors method count taken₀ pending₀ room₀ moved₀ seen₀ row₀ bounds taken pending room moved seen row =
+    (length bounds ≡ count)
+    × Sweeping (sheetOf words) (askOf words processors method) bounds₀ bounds moved seen row
+    × (length taken ≡ count)
+    × (length pending ≡ count)
+    × (length room ≡ count)
 
 abbrev μ-loop : tie.MeasureT-loop
-μ-loop words bounds₀ processors method count moved₀ seen₀ row₀ bounds moved seen row = count - row
+μ-loop words bounds₀ processors method count taken₀ pending₀ room₀ moved₀ seen₀ row₀ bounds taken pending room moved seen row = count - row
 
 loop-holds : tie.Need-loop-holds Inv-loop μ-loop
-loop-holds c =
-    let p = c .before .before in
-    (omega (arith, p .pre .0 .one-each, p .pre .1), sweep-start _ _ _)
+loop-holds c = (omega (arith, c .before .before .before .before .before .pre .0 .one-each, c .before .before .before .before .before .pre .1), sweep-start _ _ _, c .before .before .before .before .before .pre .5, c .before .before .before .before .before .pre .6, c .before .before .before .before .before .pre .7)
 
-answer-quickly-requires : tie.Need-answer-quickly-requires Inv-loop μ-loop
-answer-quickly-requires c κs =
-    let p = c .before .before .before .before .before in
-    let q = c .before .before .loop in
+answer-quickly-in-requires : tie.Need-answer-quickly-in-requires Inv-loop μ-loop
+answer-quickly-in-requires c κs =
+    let p = c .before .before .before .before .before .before .before .before .before .before .before in
+    let q = c .before .before .before .before .before .loop in
     let regular = ask-regular (now (p .args .words)) (p .args .processors) (p .args .method) in (
       ready-lower _ _ regular _ _ (p .pre .0) (sweeping-held _ _ regular _ (p .pre .3) _ _ _ _ (q .inv .1))
           (sweeping-below _ _ regular _ (p .pre .3) _ _ _ _ (q .inv .1)),
       omega (arith, p .pre .1),
       p .pre .1,
       p .pre .2,
+      q .inv .2,
+      q .inv .3,
+      q .inv .4,
+      p .pre .4,
     )
 
 deadline-requires : tie.Need-deadline-requires Inv-loop μ-loop
@@ -44,9 +50,7 @@ bound-or-requires : tie.Need-bound-or-requires Inv-loop μ-loop
 bound-or-requires c κs = search needs
 
 with-mark-requires : tie.Need-with-mark-requires Inv-loop μ-loop
-with-mark-requires c κs =
-    let p = c .before .before .before .before .before .before .before .before in
-    (omega (arith, p .pre .0 .rows .at-most, p .pre .1), c .before .before .before .before .before .loop .inv .1 .small)
+with-mark-requires c κs = (omega (arith, c .before .before .before .before .before .before .before .before .before .before .before .before .before .before .before .before .before .before .before .before .pre .0 .rows .at-most, c .before .before .before .before .before .before .before .before .before .before .before .before .before .before .before .before .before .before .before .before .pre .1), c .before .before .before .before .before .before .before .before .before .before .before .before .before .before .loop .inv .1 .small)
 
 cast-if1 : tie.Need-cast-if1 Inv-loop μ-loop
 cast-if1 c = search needs
@@ -75,26 +79,38 @@ loop-less c = search needs
 loop-again : tie.Need-loop-again Inv-loop μ-loop
 unfolding askOf
 loop-again c =
-    let p = c .before .before .before .before .before .before .before .before .before .before .before in
-    let q = c .before .before .before .before .before .before .before .before .loop in
+    let p = c .before .before .before .before .before .before .before .before .before .before .before .before .before .before .before .before .before .before .before .before .before .before .before in
+    let q = c .before .before .before .before .before .before .before .before .before .before .before .before .before .before .before .before .before .loop in
     let words = now (p .args .words) in
-    let asked = c .before .before .before .before .before .answer-quickly in
+    let asked = c .before .before .before .before .before .before .before .before .before .before .before .answer-quickly-in in
     let bound = c .before .before .before .bound-or in (
       length-set (q .bounds) (q .row) (bound .result) ∙ q .inv .0,
       rw (c .before .before .with-mark .ensures)
           (sweep-on (sheetOf words) (askOf words (p .args .processors) (p .args .method)) (ask-regular words (p .args .processors) (p .args .method))
           (now (p .args .bounds)) (p .pre .3) (q .bounds) (q .moved) (q .seen) (q .row) (q .inv .1) (asked .result) (bound .result) (c .if1 .moved)
-          (omega (arith, p .pre .1, sheet-rows words)) (asked .ensures)
+          (omega (arith, c .before .before .before .before .before .before .before .before .before .before .before .before .before .before .before .before .loop-test, p .pre .1, sheet-rows words)) (asked .ensures)
           (turn-found _ _ _ _ _ _ _ (asked .ensures) (c .before .before .before .before .deadline .ensures) (bound .ensures))
           (⊎-elim (λ w. inl (w .0 .taken, w .1)) (λ w. inr (w .0 .left, w .1)) (c .if1 .came))),
+      asked .kept .1 .1 .1 .1 .1 .1 .0 ∙ q .inv .2,
+      asked .kept .1 .1 .1 .1 .1 .1 .1 .0 ∙ q .inv .3,
+      asked .kept .1 .1 .1 .1 .1 .1 .1 .1 .0 ∙ q .inv .4,
     )
 
 same-length : tie.Need-same-length Inv-loop μ-loop
-same-length c = search needs
+same-length c = c .before .loop .inv .0 ∙ c .before .before .before .before .before .before .before .pre .1 ∙ sym (c .before .before .before .before .before .before .before .pre .0 .one-each)
+
+same-length-2 : tie.Need-same-length-2 Inv-loop μ-loop
+same-length-2 c = c .before .loop .inv .2 ∙ sym (c .before .before .before .before .before .before .before .pre .5)
+
+same-length-3 : tie.Need-same-length-3 Inv-loop μ-loop
+same-length-3 c = c .before .loop .inv .3 ∙ sym (c .before .before .before .before .before .before .before .pre .6)
+
+same-length-4 : tie.Need-same-length-4 Inv-loop μ-loop
+same-length-4 c = c .before .loop .inv .4 ∙ sym (c .before .before .before .before .before .before .before .pre .7)
 
 returns : tie.Need-returns Inv-loop μ-loop
 returns c =
-    let p = c .before .before .before .before in
+    let p = c .before .before .before .before .before .before .before in
     let q = c .before .loop in
     let words = now (p .args .words) in
     let done : q .row ≡ rowCount words = omega (arith, q .inv .1 .upto, p .pre .1, sheet-rows words) in
@@ -107,7 +123,7 @@ sweep-rows-spec =
     Inv-loop
     μ-loop
     loop-holds
-    answer-quickly-requires
+    answer-quickly-in-requires
     deadline-requires
     bound-or-requires
     with-mark-requires
@@ -121,4 +137,7 @@ sweep-rows-spec =
     loop-less
     loop-again
     same-length
+    same-length-2
+    same-length-3
+    same-length-4
     returns)
