@@ -2,7 +2,7 @@
 
 use super::others::Others;
 
-/// After every so many steps of a climb the chord is tried too.
+/// After every so many steps of a climb rows that add no more are left out, and the chord is tried too.
 const STEPS_TO_A_CHORD: u32 = 16;
 
 /// The shortest stretch that the chord is tried over.
@@ -47,14 +47,18 @@ pub fn least_solution(others: &mut Others, processors: u32, cost: u32, deadline:
     let (mut tried, mut steps) = (cost, 0);
     loop {
         let cap = tried - cost + 1;
+        steps += 1;
+        let try_chord = steps % STEPS_TO_A_CHORD == 0;
+        if try_chord {
+            others.leave_out(tried, cap);
+        }
         let sum = others.sum(tried, cap);
         if sum < processors * cap {
             return tried;
         }
         let longest = deadline - tried;
         let mut stretch = jump(others, sum - processors * cap, processors, longest);
-        steps += 1;
-        if steps % STEPS_TO_A_CHORD == 0 {
+        if try_chord {
             stretch = stretch.max(chord(others, processors, cost, tried, longest));
         }
         if stretch == longest {
