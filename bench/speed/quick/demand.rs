@@ -2,44 +2,78 @@
 
 use crate::plain::{busy_length, demand_and_next, demand_test_allowed};
 
-/// The demand in a length.
-fn demand(words: &[u32], length: u32) -> u32 {
-    let of_row = |row: &[u32]| {
-        let (cost, deadline, period) = (row[0], row[1], row[2]);
-        if length < deadline {
-            0
-        } else {
-            ((length - deadline) / period + 1) * cost
-        }
-    };
-    words.chunks_exact(3).map(of_row).sum()
+/// Rows are looked at so many at a time.
+const GROUP: usize = 4;
+
+/// What is noted of each group of rows: its demand in a length, and its last deadline within that length. The demand is the
+/// same in every shorter length from that deadline on, so the group is looked at again only before it.
+struct Notes {
+    since: [u32; 16],
+    most: [u32; 16],
 }
 
-/// Whether no length above one and up to another misses: where a length's demand is less, every length from there on is clear.
-fn clear_between(words: &[u32], low: u32, high: u32) -> bool {
-    let mut length = high;
-    while low < length {
-        let demand = demand(words, length);
-        if length < demand {
-            return false;
+impl Notes {
+    /// Nothing noted: every group is looked at.
+    fn none() -> Notes {
+        Notes {
+            since: [u32::MAX; 16],
+            most: [0; 16],
         }
-        if demand == 0 {
-            return true;
-        }
-        length = demand - 1;
     }
-    true
+
+    /// The demand in a length, which is shorter than those noted.
+    fn demand(&mut self, words: &[u32], length: u32) -> u32 {
+        let mut sum = 0;
+        let notes = self.since.iter_mut().zip(&mut self.most);
+        for (rows, (since, most)) in words.chunks(3 * GROUP).zip(notes) {
+            if length < *since {
+                (*since, *most) = look(rows, length);
+            }
+            sum += *most;
+        }
+        sum
+    }
 }
 
-/// A length up to which no length misses, as far as halving steps find one.
-fn clear_up_to(words: &[u32], last: u32) -> u32 {
-    let (mut clear, mut step) = (0, last);
-    while step > 0 {
-        let high = last.min(clear + step);
-        if clear_between(words, clear, high) {
-            clear = high;
+/// The last deadline of these rows within a length, or 0, and their demand in it.
+fn look(rows: &[u32], length: u32) -> (u32, u32) {
+    let (mut since, mut demand) = (0, 0);
+    for row in rows.chunks_exact(3) {
+        let (cost, deadline, period) = (row[0], row[1], row[2]);
+        if deadline <= length {
+            let jobs = (length - deadline) / period;
+            since = since.max(deadline + jobs * period);
+            demand += (jobs + 1) * cost;
         }
-        step /= 2;
+    }
+    (since, demand)
+}
+
+/// How far down backward steps come from a high length: to the low one or below it, or to the first that misses. Where a
+/// length's demand is less, every length from there on is clear.
+fn clear_down_to(words: &[u32], low: u32, high: u32) -> u32 {
+    let (mut length, mut notes) = (high, Notes::none());
+    while low < length {
+        let demand = notes.demand(words, length);
+        if length < demand {
+            return length;
+        }
+        length = demand.saturating_sub(1);
+    }
+    length
+}
+
+/// A length up to which no length misses: the whole range is tried first, then half of each gap that is left.
+fn clear_up_to(words: &[u32], last: u32) -> u32 {
+    let (mut clear, mut stopped, mut middle) = (0, last + 1, last);
+    while clear < middle {
+        let reached = clear_down_to(words, clear, middle);
+        if reached <= clear {
+            clear = middle;
+        } else {
+            stopped = reached;
+        }
+        middle = clear + (stopped - clear) / 2;
     }
     clear
 }

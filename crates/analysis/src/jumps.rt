@@ -1,5 +1,4 @@
 // RTA by jumps: climbs as the plain method does, but past every X that the terms at hand exclude.
-use crate::interference::other_share;
 use crate::interference::work_in_time;
 use crate::response::term;
 use numbers::less;
@@ -18,7 +17,7 @@ ghost use Rattle.laws.specs.Places.{over, Places};
 ghost use Rattle.model.specs.Interference.{rtaRight};
 ghost use Rattle.model.specs.Answer.{rtaAnswer};
 ghost use Rattle.rows.specs.Words.{rowCount, sheetOf, foundOf};
-ghost use Rattle.analysis.specs.Inner.{Ready, Prepared, shares, termOf, reach, roomOf, Rooms, Jumped, lineOf, PendingRows, LargeShares, Excluded, Onward};
+ghost use Rattle.analysis.specs.Inner.{Ready, Prepared, termOf, reach, roomOf, Rooms, Jumped, lineOf, PendingRows, LargeShares, Excluded, Onward};
 
 // What another row adds at X, and its room: how much more it adds for certain, one a step.
 pub(crate) struct Rise {
@@ -69,7 +68,7 @@ pub(crate) fn term_and_room(
     let own = words[at];
     let period = words[second];
     let time = x + bounds[other as usize] - own;
-    let term = lesser(work_in_time(own, period, time), lesser(share, cap));
+    let term = lesser(lesser(work_in_time(own, period, time), share), cap);
     let whole = time / period * own;
     let room = certain(own, period, whole, share) - term;
     Rise {
@@ -78,34 +77,23 @@ pub(crate) fn term_and_room(
     }
 }
 
-// What each other row takes at most, and the places of those that take more than 1. A share of 0 or 1 is added whole at every X.
-pub(crate) fn meet_others(
-    words: &[u32],
-    bounds: &[u32],
-    row: u32,
-    count: u32,
-    taken: &mut [u32],
-    pending: &mut [u32],
-) -> Pending
-    requires { ⌜ Ready (now words) (now bounds) × (row < rowCount (now words)) × (count ≡ rowCount (now words)) × (length (now taken) ≡ count) × (length (now pending) ≡ count) ⌝ }
-    ensures listed { λ r. ⌜ now (taken .exit) ≡ shares (sheetOf (now (words .entry))) row (now (bounds .entry)) ⌝ }
-    ensures large { λ r. ⌜ LargeShares (now (taken .exit)) (now (pending .exit)) count (r .left) (r .settled) ⌝ }
+// The places of the rows whose share is above 1. A share of 0 or 1 is added whole at every X.
+pub(crate) fn first_pending(taken: &[u32], pending: &mut [u32], count: u32) -> Pending
+    requires { ⌜ (length (now taken) ≡ count) × (length (now pending) ≡ count) × (count ≤ 64) ⌝ }
+    ensures { λ r. ⌜ LargeShares (now (taken .entry)) (now (pending .exit)) count (r .left) (r .settled) ⌝ }
 {
-    let window = deadline(words, row);
-    let cap = window - cost(words, row) + 1;
     let mut settled = 0;
     let mut left = 0;
-    let mut other = 0;
-    while other < count {
-        let share = other_share(words, bounds, row, other, window, cap);
-        taken[other as usize] = share;
-        pending[left as usize] = other;
+    let mut place = 0;
+    while place < count {
+        let share = taken[place as usize];
+        pending[left as usize] = place;
         if 1 < share {
             left += 1;
         } else {
             settled += share;
         }
-        other += 1;
+        place += 1;
     }
     Pending {
         left: left,
@@ -391,19 +379,18 @@ pub(crate) fn rta_quickly(
     words: &[u32],
     bounds: &[u32],
     taken: &[u32],
-    pending: &mut [u32],
-    first: Pending,
     row: u32,
     count: u32,
     processors: u32,
+    pending: &mut [u32],
     room: &mut [u32],
 ) -> Found
-    requires { ⌜ Prepared (now words) (now bounds) (now taken) row count processors × (length (now pending) ≡ count) × LargeShares (now taken) (now pending) count (first .left) (first .settled) × (length (now room) ≡ count) × (processors ≤ 64) ⌝ }
+    requires { ⌜ Prepared (now words) (now bounds) (now taken) row count processors × (length (now pending) ≡ count) × (length (now room) ≡ count) × (processors ≤ 64) ⌝ }
     ensures { λ r. ⌜ r ≡ foundOf (rtaAnswer (sheetOf (now (words .entry))) processors row (now (bounds .entry))) ⌝ }
 {
     let own = cost(words, row);
     let top = deadline(words, row);
-    let mut rows = first;
+    let mut rows = first_pending(taken, pending, count);
     let mut x = own;
     let mut step = 0u32;
     loop {

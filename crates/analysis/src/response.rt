@@ -1,7 +1,6 @@
 // One row's answer: BCL by its formula, RTA by climbing from the cost.
 use crate::interference::fill_shares;
 use crate::interference::work_in_time;
-use crate::jumps::meet_others;
 use crate::jumps::rta_quickly;
 use numbers::lesser;
 use rows::Found;
@@ -197,22 +196,11 @@ pub(crate) fn answer_quickly_in(
     requires { ⌜ Ready (now words) (now bounds) × (row < rowCount (now words)) × (count ≡ rowCount (now words)) × (1 ≤ processors) × (length (now taken) ≡ count) × (length (now pending) ≡ count) × (length (now room) ≡ count) × (processors ≤ 64) ⌝ }
     ensures { λ r. ⌜ r ≡ foundOf (answer (methodOf method) (sheetOf (now (words .entry))) processors row (now (bounds .entry))) ⌝ }
 {
+    fill_shares(words, bounds, row, count, taken);
     if method == 0 {
-        fill_shares(words, bounds, row, count, taken);
         bcl_row(words, bounds, taken, row, count, processors)
     } else {
-        let rows = meet_others(words, bounds, row, count, taken, pending);
-        rta_quickly(
-            words,
-            bounds,
-            taken,
-            pending,
-            rows,
-            row,
-            count,
-            processors,
-            room,
-        )
+        rta_quickly(words, bounds, taken, row, count, processors, pending, room)
     }
 }
 

@@ -1,5 +1,4 @@
 -- `answer_quickly_in` prepares the shares and hands the row to the method that its number names.
-use mathlib.Core.Path.{_∙_}
 use Rattle.analysis.proofs.ByMethod.{by-bcl, by-rta}
 use borrow.Author.Needs.{needs}
 use Rattle.analysis.proofs.response.answer_quickly_in.Statement.{statement}
@@ -11,23 +10,14 @@ fill-shares-requires c κs = search needs
 bcl-row-requires : tie.Need-bcl-row-requires
 bcl-row-requires c κs = search needs
 
-meet-others-requires : tie.Need-meet-others-requires
-meet-others-requires c κs = search needs
-
 rta-quickly-requires : tie.Need-rta-quickly-requires
-rta-quickly-requires c κs = (
-  record { ready = c .before .before .before .before .before .before .before .before .before .before .before .before .before .before .before .before .pre .0; inside = c .before .before .before .before .before .before .before .before .before .before .before .before .before .before .before .before .pre .1; counted = c .before .before .before .before .before .before .before .before .before .before .before .before .before .before .before .before .pre .2; shared = c .before .before .before .before .before .before .before .meet-others .ensures .0; some-processor = c .before .before .before .before .before .before .before .before .before .before .before .before .before .before .before .before .pre .3 },
-  c .before .before .before .before .before .before .before .meet-others .kept .1 .1 .1 .1 .1 .0 ∙ c .before .before .before .before .before .before .before .before .before .before .before .before .before .before .before .before .pre .5,
-  c .before .before .before .before .before .before .before .meet-others .ensures .1,
-  c .before .before .before .before .before .before .before .before .before .before .before .before .before .before .before .before .pre .6,
-  c .before .before .before .before .before .before .before .before .before .before .before .before .before .before .before .before .pre .7,
-)
+rta-quickly-requires c κs = search needs
 
 same-length : tie.Need-same-length
 same-length c = search needs
 
 returns : tie.Need-returns
-returns c = by-bcl _ _ _ _ _ _ (c .before .before .before .before .before .before .if1 .taken) (c .bcl-row .ensures)
+returns c = by-bcl _ _ _ _ _ _ (c .before .before .if1 .taken) (c .bcl-row .ensures)
 
 same-length-2 : tie.Need-same-length-2
 same-length-2 c = search needs
@@ -39,7 +29,7 @@ same-length-4 : tie.Need-same-length-4
 same-length-4 c = search needs
 
 returns-2 : tie.Need-returns-2
-returns-2 c = by-rta _ _ _ _ _ _ (c .before .before .before .before .before .before .before .before .before .before .before .before .before .before .before .if1 .left) (c .before .before .before .before .rta-quickly .ensures)
+returns-2 c = by-rta _ _ _ _ _ _ (c .before .before .before .before .before .before .before .before .if1 .left) (c .before .before .before .before .rta-quickly .ensures)
 
 pub answer-quickly-in-spec : {M : Type 1} → statement M
 answer-quickly-in-spec =
@@ -47,7 +37,6 @@ answer-quickly-in-spec =
     (tie.spec
     fill-shares-requires
     bcl-row-requires
-    meet-others-requires
     rta-quickly-requires
     same-length
     returns
