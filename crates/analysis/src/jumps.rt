@@ -68,7 +68,7 @@ pub(crate) fn term_and_room(
     let own = words[at];
     let period = words[second];
     let time = x + bounds[other as usize] - own;
-    let term = lesser(lesser(work_in_time(own, period, time), share), cap);
+    let term = lesser(work_in_time(own, period, time), lesser(share, cap));
     let whole = time / period * own;
     let room = certain(own, period, whole, share) - term;
     Rise {

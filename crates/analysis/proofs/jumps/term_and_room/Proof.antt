@@ -1,8 +1,8 @@
 -- `term_and_room` is the least of work, share and cap, and what is left to the reach.
 use borrow.Author.Needs.{needs}
 use native.Mathlib.Omega.{arith}
-use mathlib.Core.Path.{_≡_, _∙_, ap, ap₂}
-use Prim.Native.Nat.{ℕ, _+_, _*_, _-_, _/_, _≤_, min}
+use mathlib.Core.Path.{_∙_, ap₂}
+use Prim.Native.Nat.{_+_, _*_, _-_, _/_, _≤_, min}
 use lib.ListN.{getD}
 use denote.Ref.{now}
 use Rattle.model.specs.Sheet.{triples}
@@ -81,20 +81,14 @@ certain-requires : tie.Need-certain-requires
 certain-requires c κs = let p = c .before .before .before .before .before .before .before .before .before .before in let known = sizes _ _ (p .pre .0) (p .args .other) (p .pre .1) in (whole-small p, omega arith)
 
 sub-room : tie.Need-sub-room
-sub-room c = 
-    rw (c .certain .ensures)
-    (reach-above _ _ _ _ _ (omega (arith, c .before .before .before .work-in-time .ensures, c .before .before .lesser .ensures, c .before .lesser2 .ensures)) (omega (arith, c .before .before .lesser .ensures, c .before .lesser2 .ensures)))
-
--- The least of three, either way.
-either-way : (a b c : ℕ) → min (min a b) c ≡ min a (min b c)
-either-way a b c = omega arith
+sub-room c =
+    let least = c .before .lesser2 .ensures in
+    rw (c .certain .ensures) (reach-above _ _ _ _ _ (omega (arith, c .before .before .before .work-in-time .ensures, least)) (omega (arith, least, c .before .before .lesser .ensures)))
 
 returns : tie.Need-returns
 unfolding termOf roomOf workOf work sheetOf triples
-returns c = 
-    let p = c .before .before .before .before .before .before .before .before .before .before .before in
-    let term = c .before .lesser2 .ensures ∙ ap (λ (least : ℕ). min least (p .args .cap)) (c .before .before .lesser .ensures ∙ ap (λ (work : ℕ). min work (getD (now (p .args .taken)) (p .args .other) 0)) (c .before .before .before .work-in-time .ensures))
-    ∙ either-way _ _ _ in
+returns c =
+    let term = c .before .lesser2 .ensures ∙ ap₂ min (c .before .before .before .work-in-time .ensures) (c .before .before .lesser .ensures) in
     (term, ap₂ _-_ (c .certain .ensures) term)
 
 pub term-and-room-spec : {M : Type 1} → statement M
