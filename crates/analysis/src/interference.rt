@@ -6,7 +6,6 @@ use rows::deadline;
 ghost use mathlib.Core.Path.{_≡_};
 ghost use Prim.Native.Nat.{_+_, _-_, _≤_, _<_};
 ghost use lib.ListN.{length};
-ghost use Rattle.laws.specs.Sum.{unless};
 ghost use Rattle.model.specs.Interference.{share, carried, bclTerm};
 ghost use Rattle.rows.specs.Words.{rowCount, sheetOf};
 ghost use Rattle.analysis.specs.Inner.{Ready, WindowOf, shares};
@@ -52,26 +51,8 @@ pub(crate) fn capped_share(
     )
 }
 
-// The same for every other row, and 0 for the row itself, which is left out by its place.
-pub(crate) fn other_share(
-    words: &[u32],
-    bounds: &[u32],
-    row: u32,
-    other: u32,
-    window: u32,
-    cap: u32,
-) -> u32
-    requires { ⌜ Ready (now words) (now bounds) × (row < rowCount (now words)) × (other < rowCount (now words)) × WindowOf (sheetOf (now words)) row window cap ⌝ }
-    ensures { λ r. ⌜ r ≡ unless row (bclTerm (sheetOf (now (words .entry))) row (now (bounds .entry))) other ⌝ }
-{
-    if other == row {
-        0
-    } else {
-        capped_share(words, bounds, row, other, window, cap)
-    }
-}
-
-// Fills in what each other row takes at most: worked out once a turn, whatever X is tried.
+// Fills in what each other row takes at most, and 0 for the row itself, which is left out by its place: worked out once a turn, whatever X is
+// tried.
 pub(crate) fn fill_shares(words: &[u32], bounds: &[u32], row: u32, count: u32, out: &mut [u32])
     requires { ⌜ Ready (now words) (now bounds) × (row < rowCount (now words)) × (count ≡ rowCount (now words)) × (length (now out) ≡ count) ⌝ }
     ensures { λ r. ⌜ now (out .exit) ≡ shares (sheetOf (now (words .entry))) row (now (bounds .entry)) ⌝ }
@@ -80,7 +61,8 @@ pub(crate) fn fill_shares(words: &[u32], bounds: &[u32], row: u32, count: u32, o
     let cap = window - cost(words, row) + 1;
     let mut other = 0;
     while other < count {
-        out[other as usize] = other_share(words, bounds, row, other, window, cap);
+        out[other as usize] = capped_share(words, bounds, row, other, window, cap);
         other += 1;
     }
+    out[row as usize] = 0;
 }

@@ -9,12 +9,13 @@ use native.Mathlib.Numerals.{add-one}
 use native.Mathlib.Omega.{arith}
 use borrow.Author.Tests.{eqb-true, eq-eqb}
 use lib.Dec.{eqb}
-use lib.ListN.{length, getD, take, drop, set, length-append, length-drop, drop-of-length-le, List·getD-append}
-use lib.Seq.{getD-append-add, ext-getD, drop-length, drop-cons, set-at, take-all, take-at, drop-at, take-append-le, drop-append-le, drop-drop, getD-at, getD-take, getD-drop, append-snoc}
+use native.Mathlib.Decide.{ℕ-discrete}
+use lib.ListN.{length, getD, take, drop, set, length-set, length-append, length-drop, drop-of-length-le, List·getD-append}
+use lib.Seq.{getD-append-add, ext-getD, getD-set-same, getD-set-other, drop-length, drop-cons, set-at, take-all, take-at, drop-at, take-append-le, drop-append-le, drop-drop, getD-at, getD-take, getD-drop, append-snoc}
 use Rattle.laws.proofs.Choice.{never-both, not-refused, is-refused, and-left, and-right}
-use Rattle.laws.specs.Sum.{total}
+use Rattle.laws.specs.Sum.{total, unless}
 use Rattle.laws.proofs.Order.{below-or-from}
-use Rattle.laws.proofs.Sum.{total-tight}
+use Rattle.laws.proofs.Sum.{total-tight, unless-here, unless-other}
 use Rattle.laws.specs.Fill.{listed, joined, same, Below, atFront}
 
 -- As many as were listed.
@@ -75,6 +76,19 @@ listed-next f i before now filled =
   where
     behind : (front rest : List ℕ) (i : ℕ) → length front ≡ i → getD (front ++ rest) i 0 ≡ getD rest 0 0
     behind front rest i size = ap (λ (k : ℕ). getD (front ++ rest) k 0) (sym size ∙ sym (add-zero (length front))) ∙ getD-append-add front rest 0 0
+
+-- With 0 stored at a place, it is what was listed at every other place.
+pub listed-unless : (f : ℕ → ℕ) (n k : ℕ) → k < n → set (listed f n) k 0 ≡ listed (unless k f) n
+listed-unless f n k inside =
+    ext-getD 0 (set (listed f n) k 0) (listed (unless k f) n)
+    (length-set (listed f n) k 0 ∙ listed-length f n ∙ sym (listed-length (unless k f) n))
+    (λ i h. let there : i < n = rw (length-set, listed-length) at h in rw (listed-at (unless k f) n i there) (at-place i there (ℕ-discrete i k)))
+  where
+    at-place : (i : ℕ) → i < n → Dec (i ≡ k) → getD (set (listed f n) k 0) i 0 ≡ unless k f i
+    at-place i there (yes here) =
+        rw (here, unless-here k f) (getD-set-same (listed f n) k 0 0 (rw listed-length inside))
+    at-place i there (no elsewhere) =
+        rw (unless-other k f i elsewhere) (getD-set-other (listed f n) k i 0 0 elsewhere ∙ listed-at f n i there)
 
 -- A list is the listing of what stands at its places.
 pub listed-back : (l : List ℕ) (n : ℕ) → length l ≡ n → listed (λ i. getD l i 0) n ≡ l

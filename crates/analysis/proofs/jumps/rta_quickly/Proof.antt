@@ -62,25 +62,25 @@ add-still-pending c = let sized = sound-row (now (c .before .before .before .bef
 
 still-pending-requires : tie.Need-still-pending-requires Inv-loop μ-loop
 still-pending-requires c κs = let sized = sound-row (now (c .before .before .before .before .before .before .before .before .before .before .before .before .before .args .words)) (c .before .before .before .before .before .before .before .before .before .before .before .before .before .pre .0 .ready .rows) (c .before .before .before .before .before .before .before .before .before .before .before .before .before .args .row) (c .before .before .before .before .before .before .before .before .before .before .before .before .before .pre .0 .inside) in (
-      c .before .before .before .before .before .before .before .before .before .before .before .before .before .pre .0 .ready,
-      prepared-length _ _ _ _ _ _ (prepared-counted _ _ _ _ _ _ (c .before .before .before .before .before .before .before .before .before .before .before .before .before .pre .0)),
-      rw (c .before .before .before .before .before .before .before .cost .ensures) (c .before .loop .inv .5),
-      omega (arith, c .before .loop .inv .0 .from),
-      omega (arith, c .before .loop .inv .1),
-      omega (arith, c .before .loop .inv .1, c .before .before .before .before .before .before .before .cost .ensures),
-    )
+  c .before .before .before .before .before .before .before .before .before .before .before .before .before .pre .0 .ready,
+  prepared-length _ _ _ _ _ _ (prepared-counted _ _ _ _ _ _ (c .before .before .before .before .before .before .before .before .before .before .before .before .before .pre .0)),
+  rw (c .before .before .before .before .before .before .before .cost .ensures) (c .before .loop .inv .5),
+  omega (arith, c .before .loop .inv .0 .from),
+  omega (arith, c .before .loop .inv .1),
+  omega (arith, c .before .loop .inv .1, c .before .before .before .before .before .before .before .cost .ensures),
+)
 
 onward-requires : tie.Need-onward-requires Inv-loop μ-loop
 onward-requires c κs = (
-      prepared-counted _ _ _ _ _ _ (c .before .before .before .before .before .before .before .before .before .before .before .before .before .before .before .before .before .before .pre .0),
-      c .before .before .before .before .still-pending .ensures,
-      c .before .before .before .before .before .before .before .before .before .before .before .before .cost .ensures,
-      c .before .before .before .before .before .before .before .before .before .before .before .deadline .ensures,
-      omega (arith, c .before .before .before .before .before .before .before .before .before .before .before .before .cost .ensures, c .before .before .before .before .before .before .loop .inv .0 .from),
-      omega (arith, c .before .before .before .before .before .before .before .before .before .before .before .deadline .ensures, c .before .before .before .before .before .before .loop .inv .1),
-      c .before .before .before .before .before .before .loop .inv .2 ∙ c .before .before .before .before .before .before .before .before .before .before .before .before .before .before .before .before .before .before .pre .0 .counted,
-      c .before .before .before .before .before .before .before .before .before .before .before .before .before .before .before .before .before .before .pre .3,
-    )
+  prepared-counted _ _ _ _ _ _ (c .before .before .before .before .before .before .before .before .before .before .before .before .before .before .before .before .before .before .pre .0),
+  c .before .before .before .before .still-pending .ensures,
+  c .before .before .before .before .before .before .before .before .before .before .before .before .cost .ensures,
+  c .before .before .before .before .before .before .before .before .before .before .before .deadline .ensures,
+  omega (arith, c .before .before .before .before .before .before .before .before .before .before .before .before .cost .ensures, c .before .before .before .before .before .before .loop .inv .0 .from),
+  omega (arith, c .before .before .before .before .before .before .before .before .before .before .before .deadline .ensures, c .before .before .before .before .before .before .loop .inv .1),
+  c .before .before .before .before .before .before .loop .inv .2 ∙ c .before .before .before .before .before .before .before .before .before .before .before .before .before .before .before .before .before .before .pre .0 .counted,
+  c .before .before .before .before .before .before .before .before .before .before .before .before .before .before .before .before .before .before .pre .3,
+)
 
 same-length : tie.Need-same-length Inv-loop μ-loop
 same-length c = c .before .before .before .before .before .before .before .before .still-pending .kept .1 .1 .1 .0 ∙ c .before .before .before .before .before .before .before .before .before .before .loop .inv .4 ∙ sym (c .before .before .before .before .before .before .before .before .before .before .before .before .before .before .before .before .before .before .before .before .before .before .pre .1)
@@ -90,7 +90,7 @@ same-length-2 c = c .before .before .before .onward .kept .1 .1 .1 .1 .1 .1 .1 .
 
 returns : tie.Need-returns Inv-loop μ-loop
 unfolding foundOf
-returns c = 
+returns c =
     let q = c .before .before .before .before .before .before .before .before .before .before .loop in
     ap foundOf
     (sym (climb-found _ _ _ _ (q .x) (q .inv .0) (q .inv .1) (le-antisymm (q .inv .0 .rises) (c .before .before .before .onward .ensures .stands (c .if1 .taken)))))
@@ -117,15 +117,15 @@ loop-less c = omega (arith, further (c .before), c .if2 .left, c .before .before
 
 loop-again : tie.Need-loop-again Inv-loop μ-loop
 loop-again c = (
-      climbed (c .before),
-      omega (arith, c .if2 .left, c .before .before .before .before .before .before .before .before .before .before .before .before .before .before .before .before .deadline .ensures),
-      c .before .before .before .before .onward .kept .1 .1 .1 .1 .1 .1 .1 .1 .1 .1 .1 .0 ∙ c .before .before .before .before .before .before .before .before .before .before .before .loop .inv .2,
-      omega (arith, further (c .before), c .before .before .before .before .before .before .before .before .before .before .before .loop .inv .3),
-      c .before .before .before .before .before .before .before .before .before .still-pending .kept .1 .1 .1 .0 ∙ c .before .before .before .before .before .before .before .before .before .before .before .loop .inv .4,
-      rw (c .before .before .before .before .before .before .before .before .before .before .before .before .before .before .before .before .before .cost .ensures) at
-          (pending-from _ _ _ _ _ _ _ _ _ (c .before .before .before .before .before .before .before .before .before .still-pending .ensures) (c .before .before .before .before .before .before .before .before .before .before .before .before .before .before .before .before .before .cost .result) (c .before .before .before .before .onward .result) (omega (arith, c .before .before .before .before .before .before .before .before .before .before .before .before .before .before .before .before .before .cost .ensures, c .before .before .before .before .before .before .before .before .before .before .before .loop .inv .0 .from))
-          refl (omega (arith, further (c .before)))),
-    )
+  climbed (c .before),
+  omega (arith, c .if2 .left, c .before .before .before .before .before .before .before .before .before .before .before .before .before .before .before .before .deadline .ensures),
+  c .before .before .before .before .onward .kept .1 .1 .1 .1 .1 .1 .1 .1 .1 .1 .1 .0 ∙ c .before .before .before .before .before .before .before .before .before .before .before .loop .inv .2,
+  omega (arith, further (c .before), c .before .before .before .before .before .before .before .before .before .before .before .loop .inv .3),
+  c .before .before .before .before .before .before .before .before .before .still-pending .kept .1 .1 .1 .0 ∙ c .before .before .before .before .before .before .before .before .before .before .before .loop .inv .4,
+  rw (c .before .before .before .before .before .before .before .before .before .before .before .before .before .before .before .before .before .cost .ensures) at
+      (pending-from _ _ _ _ _ _ _ _ _ (c .before .before .before .before .before .before .before .before .before .still-pending .ensures) (c .before .before .before .before .before .before .before .before .before .before .before .before .before .before .before .before .before .cost .result) (c .before .before .before .before .onward .result) (omega (arith, c .before .before .before .before .before .before .before .before .before .before .before .before .before .before .before .before .before .cost .ensures, c .before .before .before .before .before .before .before .before .before .before .before .loop .inv .0 .from))
+      refl (omega (arith, further (c .before)))),
+)
 
 pub rta-quickly-spec : {M : Type 1} → statement M
 rta-quickly-spec =
