@@ -33,6 +33,13 @@ jobs-demand c d p t = split (ltb t d)
     split true = sym (zero-mul c)
     split false = refl
 
+-- So before the first deadline nothing is demanded, and that deadline is the next.
+pub look-before : (c d p t : ℕ) → d ≤ p → t < d → (rowDemand c d p t ≡ 0) × (nextDue d p t - p ≡ 0) × (nextDue d p t ≡ d)
+unfolding nextDue
+look-before c d p t by-period early =
+    let none : jobsWithin d p t * p ≡ 0 = rw (jobs-before d p t early) (zero-mul p) in
+    (demand-before c d p t early, omega (arith, none), omega (arith, none))
+
 -- A row whose cost is at most its deadline and its period demands at most the length.
 row-fits : (c d p t : ℕ) → c ≤ d → c ≤ p → rowDemand c d p t ≤ t
 row-fits c d p t by-deadline by-period =

@@ -25,13 +25,20 @@ pub(crate) fn jobs_within(length: u32, deadline: u32, period: u32) -> u32
     }
 }
 
-// Looks at the row at a place in the length.
+// Looks at the row at a place in the length. Before its first deadline it has no job due.
 pub(crate) fn look_at(words: &[u32], row: u32, length: u32) -> Look
     requires { ⌜ RowGiven (now words) row length ⌝ }
     ensures { λ r. ⌜ r ≡ lookOf (sheetOf (now (words .entry))) length row ⌝ }
 {
     let at = 3 * (row as usize);
     let deadline = words[at + 1];
+    if length < deadline {
+        return Look {
+            demand: 0,
+            since: 0,
+            next: deadline,
+        };
+    }
     let period = words[at + 2];
     let jobs = jobs_within(length, deadline, period);
     let demand = jobs * words[at];

@@ -1,7 +1,4 @@
 // What the functions on rows share.
-use crate::cost;
-use crate::deadline;
-use crate::period;
 use crate::row_count;
 ghost use mathlib.Core.Path.{_≡_};
 ghost use lib.ListN.{getD};
@@ -32,11 +29,16 @@ pub(crate) fn row_allowed(cost: u32, deadline: u32, period: u32) -> bool
     period <= 1_000_000
 }
 
-// Whether the row at a place has its sizes.
+// Whether the row at a place has its sizes. A row that is not wholly there has not: its period is 0.
 pub(crate) fn row_allowed_at(words: &[u32], row: u32) -> bool
     ensures { λ r. ⌜ r ≡ rowAllowedAt (sheetOf (now (words .entry))) row ⌝ }
 {
-    row_allowed(cost(words, row), deadline(words, row), period(words, row))
+    let at = 3 * (row as usize);
+    let last = at + 2;
+    if words.len() <= last {
+        return false;
+    }
+    row_allowed(words[at], words[at + 1], words[last])
 }
 
 // 2 where the list is empty or not whole rows, 3 where it is more than 64 rows, else 0.

@@ -9,7 +9,7 @@ use Rattle.model.specs.Demand.{demandOf}
 use Rattle.model.proofs.Sheet.{SizedRow}
 use Rattle.rows.specs.Words.{sheetOf}
 use Rattle.demand.specs.Inner.{nextDue, lookOf}
-use Rattle.demand.proofs.Row.{jobs-demand, look-small}
+use Rattle.demand.proofs.Row.{jobs-demand, look-before, look-small}
 use Rattle.demand.proofs.Sound.{row-words}
 use Rattle.demand.proofs.jobs.look_at.Statement.{statement}
 use Rattle.demand.proofs.jobs.look_at.Tie as tie
@@ -20,12 +20,12 @@ sizes : (s : tie.Start) → let words = now (s .args .words) in
 sizes s = row-words _ _ _ (s .pre)
 
 -- The row's demand and its next deadline are small.
-small : (c : tie.After-jobs-within) → let s = c .before .before .before .before in
+small : (c : tie.After-jobs-within) → let s = c .before .before .before .before .before in
     let words = now (s .args .words) in
     (c .jobs-within .result * getD words (3 * s .args .row) 0 ≤ 16_777_216)
     × (getD words (3 * s .args .row + 1) 0 + c .jobs-within .result * getD words (3 * s .args .row + 2) 0 ≤ 17_777_216)
 small c =
-    let s = c .before .before .before .before in rw (c .jobs-within .ensures) (look-small _ _ _ _ (sizes s) (s .pre .within))
+    let s = c .before .before .before .before .before in rw (c .jobs-within .ensures) (look-small _ _ _ _ (sizes s) (s .pre .within))
 
 mul-at : tie.Need-mul-at
 mul-at c = search needs
@@ -39,6 +39,15 @@ mul-deadline c = search needs
 shared-slice-read-deadline : tie.Need-shared-slice-read-deadline
 shared-slice-read-deadline c = search needs
 
+returns : tie.Need-returns
+unfolding lookOf demandOf sheetOf triples
+returns c =
+    let s = c .before .before .before in
+    let words = now (s .args .words) in
+    let at = 3 * s .args .row in
+    let early = look-before (getD words at 0) (getD words (at + 1) 0) (getD words (at + 2) 0) (s .args .length) (sizes s .within-period) (c .if1 .taken) in
+    rw (early .0, early .1, early .2)
+
 add-period : tie.Need-add-period
 add-period c = search needs
 
@@ -50,7 +59,7 @@ shared-slice-read-period c = search needs
 
 jobs-within-requires : tie.Need-jobs-within-requires
 jobs-within-requires c κs =
-    let s = c .before .before .before in
+    let s = c .before .before .before .before in
     let row = sizes s in
     (omega arith, s .pre .within)
 
@@ -72,9 +81,9 @@ add-next c = let bounds = small (c .before) in omega arith
 less-requires : tie.Need-less-requires
 less-requires c κs = search needs
 
-returns : tie.Need-returns
+returns-2 : tie.Need-returns-2
 unfolding lookOf demandOf nextDue sheetOf triples
-returns c = rw (c .less .ensures, c .before .before .jobs-within .ensures, jobs-demand)
+returns-2 c = rw (c .less .ensures, c .before .before .jobs-within .ensures, jobs-demand)
 
 pub look-at-spec : {M : Type 1} → statement M
 look-at-spec =
@@ -84,6 +93,7 @@ look-at-spec =
     add-deadline
     mul-deadline
     shared-slice-read-deadline
+    returns
     add-period
     mul-period
     shared-slice-read-period
@@ -94,4 +104,4 @@ look-at-spec =
     mul-next
     add-next
     less-requires
-    returns)
+    returns-2)
