@@ -67,10 +67,12 @@ pub(crate) struct Outcome {
     pub seen: u64,
 }
 
-// A sweep: rows 0 upward, each new bound used immediately, with space for what a turn works out of the other rows.
+// A sweep: rows 0 upward, each new bound used immediately, with space for what a turn works out of the other rows. Where each bound stood
+// before is written down, and nothing is claimed by it.
 pub(crate) fn sweep_rows(
     words: &[u32],
     bounds: &mut [u32],
+    before: &mut [u32],
     processors: u32,
     method: u32,
     count: u32,
@@ -78,7 +80,7 @@ pub(crate) fn sweep_rows(
     pending: &mut [u32],
     room: &mut [u32],
 ) -> Outcome
-    requires { ⌜ Ready (now words) (now bounds) × (count ≡ rowCount (now words)) × (1 ≤ processors) × Held (sheetOf (now words)) (askOf (now words) processors method) (now bounds) × (processors ≤ 64) × (length (now taken) ≡ count) × (length (now pending) ≡ count) × (length (now room) ≡ count) ⌝ }
+    requires { ⌜ Ready (now words) (now bounds) × (count ≡ rowCount (now words)) × (1 ≤ processors) × Held (sheetOf (now words)) (askOf (now words) processors method) (now bounds) × (processors ≤ 64) × (length (now taken) ≡ count) × (length (now pending) ≡ count) × (length (now room) ≡ count) × (length (now before) ≡ count) ⌝ }
     ensures { λ r. ⌜ AfterPass (sheetOf (now (words .entry))) (askOf (now (words .entry)) processors method) (sweep (sheetOf (now (words .entry))) (askOf (now (words .entry)) processors method) (rowCount (now (words .entry)))) (now (bounds .entry)) (now (bounds .exit)) (r .moved) (r .seen) ⌝ }
 {
     let mut moved = false;
@@ -98,7 +100,9 @@ pub(crate) fn sweep_rows(
         );
         let bound = bound_or(found, deadline(words, row));
         seen = with_mark(seen, found, row);
-        if bounds[row as usize] != bound {
+        let old = bounds[row as usize];
+        before[row as usize] = old;
+        if old != bound {
             moved = true;
         }
         bounds[row as usize] = bound;
@@ -203,10 +207,10 @@ pub(crate) fn settle_at_once(
 {
     let mut sweeps = 0;
     loop {
-        copy_back(bounds, before, count);
         let outcome = sweep_rows(
             words,
             bounds,
+            before,
             processors,
             method,
             count,

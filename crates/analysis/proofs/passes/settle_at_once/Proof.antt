@@ -35,84 +35,77 @@ abbrev μ-loop : tie.MeasureT-loop
 loop-holds : tie.Need-loop-holds Inv-loop μ-loop
 loop-holds c = (c .before .before .before .before .before .before .before .pre .0, c .before .before .before .before .before .before .before .pre .3, c .before .before .before .before .before .before .before .pre .4, c .before .before .before .before .before .before .before .pre .5, omega arith, c .before .before .before .before .before .before .before .pre .7, c .before .before .before .before .before .before .before .pre .8, c .before .before .before .before .before .before .before .pre .9)
 
-copy-back-requires : tie.Need-copy-back-requires Inv-loop μ-loop
-copy-back-requires c κs = (c .before .before .loop .inv .0 .one-each ∙ sym (c .before .before .before .before .before .before .before .before .before .before .pre .1), c .before .before .loop .inv .2)
-
 sweep-rows-requires : tie.Need-sweep-rows-requires Inv-loop μ-loop
-sweep-rows-requires c κs = let q = c .before .before .before .before .before .before .before .before .before .loop in (q .inv .0, c .before .before .before .before .before .before .before .before .before .before .before .before .before .before .before .before .before .pre .1, c .before .before .before .before .before .before .before .before .before .before .before .before .before .before .before .before .before .pre .2, q .inv .1, c .before .before .before .before .before .before .before .before .before .before .before .before .before .before .before .before .before .pre .6, q .inv .5, q .inv .6, q .inv .7)
+sweep-rows-requires c κs = let q = c .before .before .before .before .before .loop in (q .inv .0, c .before .before .before .before .before .before .before .before .before .before .before .before .before .pre .1, c .before .before .before .before .before .before .before .before .before .before .before .before .before .pre .2, q .inv .1, c .before .before .before .before .before .before .before .before .before .before .before .before .before .pre .6, q .inv .5, q .inv .6, q .inv .7, q .inv .2)
 
 -- After the sweep the bounds are in range and hold what bounds on the way hold.
-swept : (c : tie.After-sweep-rows Inv-loop μ-loop) → let p = c .before .before .before .before .before .before .before .before .before .before .before .before .before .before .before .before .before .before in
+swept : (c : tie.After-sweep-rows Inv-loop μ-loop) → let p = c .before .before .before .before .before .before .before .before .before .before .before .before .before .before in
     Ready (now (p .args .words)) (c .sweep-rows .last .1 .0)
     × Held (sheetOf (now (p .args .words))) (askOf (now (p .args .words)) (p .args .processors) (p .args .method)) (c .sweep-rows .last .1 .0)
-swept c =
-    let p = c .before .before .before .before .before .before .before .before .before .before .before .before .before .before .before .before .before .before in
-    let q = c .before .before .before .before .before .before .before .before .before .before .loop in
+swept c = 
+    let p = c .before .before .before .before .before .before .before .before .before .before .before .before .before .before in
+    let q = c .before .before .before .before .before .before .loop in
     let regular = ask-regular (now (p .args .words)) (p .args .processors) (p .args .method) in
     let words = now (p .args .words) in
     pass-on _ _ regular _ (sweep-pass _ _ regular) _ _ (q .inv .0) (q .inv .1)
     (c .sweep-rows .ensures .exact
     ∙ ap (λ (n : ℕ). sweep (sheetOf words) (askOf words (p .args .processors) (p .args .method)) n (q .bounds)) (sym (sheet-rows words)))
 
--- The copy of the bounds is as long as they are.
-copied : (c : tie.After-copy-back Inv-loop μ-loop) → length (c .copy-back .last .1 .0) ≡ c .before .before .before .before .before .before .before .before .before .before .before .args .count
-copied c = ap length (c .copy-back .ensures .exact) ∙ c .before .before .before .loop .inv .0 .one-each ∙ sym (c .before .before .before .before .before .before .before .before .before .before .before .pre .1)
-
 same-length : tie.Need-same-length Inv-loop μ-loop
-same-length c = swept (c .before .before .before .before .before .before .before .before .before) .0 .one-each ∙ sym (c .before .before .before .before .before .before .before .before .before .before .before .before .before .before .before .before .before .before .before .before .before .before .before .before .before .before .before .pre .0 .one-each)
+same-length c = swept (c .before .before .before .before .before .before .before .before .before .before .before) .0 .one-each ∙ sym (c .before .before .before .before .before .before .before .before .before .before .before .before .before .before .before .before .before .before .before .before .before .before .before .before .before .pre .0 .one-each)
 
 same-length-2 : tie.Need-same-length-2 Inv-loop μ-loop
-same-length-2 c = copied (c .before .before .before .before .before .before .before .before .before .before .before .before .before .before .before .before) ∙ sym (c .before .before .before .before .before .before .before .before .before .before .before .before .before .before .before .before .before .before .before .before .before .before .before .before .before .before .before .pre .4)
+same-length-2 c = c .before .before .before .before .before .before .before .before .before .before .before .sweep-rows .kept .1 .1 .0 ∙ c .before .before .before .before .before .before .before .before .before .before .before .before .before .before .before .before .before .loop .inv .2 ∙ sym (c .before .before .before .before .before .before .before .before .before .before .before .before .before .before .before .before .before .before .before .before .before .before .before .before .before .pre .4)
 
 same-length-3 : tie.Need-same-length-3 Inv-loop μ-loop
-same-length-3 c = c .before .before .before .before .before .before .before .before .before .before .before .before .before .before .before .before .before .before .before .loop .inv .3 ∙ sym (c .before .before .before .before .before .before .before .before .before .before .before .before .before .before .before .before .before .before .before .before .before .before .before .before .before .before .before .pre .5)
+same-length-3 c = c .before .before .before .before .before .before .before .before .before .before .before .before .before .before .before .before .before .loop .inv .3 ∙ sym (c .before .before .before .before .before .before .before .before .before .before .before .before .before .before .before .before .before .before .before .before .before .before .before .before .before .pre .5)
 
 same-length-4 : tie.Need-same-length-4 Inv-loop μ-loop
-same-length-4 c = c .before .before .before .before .before .before .before .before .before .sweep-rows .kept .1 .1 .1 .1 .1 .0 ∙ c .before .before .before .before .before .before .before .before .before .before .before .before .before .before .before .before .before .before .before .loop .inv .5 ∙ sym (c .before .before .before .before .before .before .before .before .before .before .before .before .before .before .before .before .before .before .before .before .before .before .before .before .before .before .before .pre .7)
+same-length-4 c = c .before .before .before .before .before .before .before .before .before .before .before .sweep-rows .kept .1 .1 .1 .1 .1 .1 .0 ∙ c .before .before .before .before .before .before .before .before .before .before .before .before .before .before .before .before .before .loop .inv .5 ∙ sym (c .before .before .before .before .before .before .before .before .before .before .before .before .before .before .before .before .before .before .before .before .before .before .before .before .before .pre .7)
 
 same-length-5 : tie.Need-same-length-5 Inv-loop μ-loop
-same-length-5 c = c .before .before .before .before .before .before .before .before .before .sweep-rows .kept .1 .1 .1 .1 .1 .1 .0 ∙ c .before .before .before .before .before .before .before .before .before .before .before .before .before .before .before .before .before .before .before .loop .inv .6 ∙ sym (c .before .before .before .before .before .before .before .before .before .before .before .before .before .before .before .before .before .before .before .before .before .before .before .before .before .before .before .pre .8)
+same-length-5 c = c .before .before .before .before .before .before .before .before .before .before .before .sweep-rows .kept .1 .1 .1 .1 .1 .1 .1 .0 ∙ c .before .before .before .before .before .before .before .before .before .before .before .before .before .before .before .before .before .loop .inv .6 ∙ sym (c .before .before .before .before .before .before .before .before .before .before .before .before .before .before .before .before .before .before .before .before .before .before .before .before .before .pre .8)
 
 same-length-6 : tie.Need-same-length-6 Inv-loop μ-loop
-same-length-6 c = c .before .before .before .before .before .before .before .before .before .sweep-rows .kept .1 .1 .1 .1 .1 .1 .1 .0 ∙ c .before .before .before .before .before .before .before .before .before .before .before .before .before .before .before .before .before .before .before .loop .inv .7 ∙ sym (c .before .before .before .before .before .before .before .before .before .before .before .before .before .before .before .before .before .before .before .before .before .before .before .before .before .before .before .pre .9)
+same-length-6 c = c .before .before .before .before .before .before .before .before .before .before .before .sweep-rows .kept .1 .1 .1 .1 .1 .1 .1 .1 .0 ∙ c .before .before .before .before .before .before .before .before .before .before .before .before .before .before .before .before .before .loop .inv .7 ∙ sym (c .before .before .before .before .before .before .before .before .before .before .before .before .before .before .before .before .before .before .before .before .before .before .before .before .before .pre .9)
 
 returns : tie.Need-returns Inv-loop μ-loop
-returns c =
-    let p = c .before .before .before .before .before .before .before .before .before .before .before .before .before .before .before .before .before .before .before .before .before .before .before .before .before .before .before in
+returns c = 
+    let p = c .before .before .before .before .before .before .before .before .before .before .before .before .before .before .before .before .before .before .before .before .before .before .before .before .before in
     let words = now (p .args .words) in
     let ask = askOf words (p .args .processors) (p .args .method) in
-    let q = c .before .before .before .before .before .before .before .before .before .before .before .before .before .before .before .before .before .before .before .loop in
-    reached _ _ _ _ _ _ _ _ (c .before .before .before .before .before .before .before .before .before .sweep-rows .ensures) (not-true _ (c .if1 .taken))
+    let q = c .before .before .before .before .before .before .before .before .before .before .before .before .before .before .before .before .before .loop in
+    reached _ _ _ _ _ _ _ _ (c .before .before .before .before .before .before .before .before .before .before .before .sweep-rows .ensures) (not-true _ (c .if1 .taken))
     (λ still.
     sweep-settled (sheetOf words) ask (ask-regular words (p .args .processors) (p .args .method)) (q .bounds) (q .inv .1)
     (ap (λ (n : ℕ). sweep (sheetOf words) ask n (q .bounds)) (sheet-rows words) ∙ still))
 
 note-drops-requires : tie.Need-note-drops-requires Inv-loop μ-loop
-note-drops-requires c κs = (swept (c .before .before .before .before .before .before .before .before .before .before .before .before) .0, c .before .before .before .before .before .before .before .before .before .before .before .before .before .before .before .before .before .before .before .before .before .before .before .before .before .before .before .before .before .before .pre .1, c .before .before .before .before .before .before .before .before .before .before .before .before .before .before .before .before .before .before .before .before .before .before .loop .inv .3, copied (c .before .before .before .before .before .before .before .before .before .before .before .before .before .before .before .before .before .before .before))
+note-drops-requires c κs = (swept (c .before .before .before .before .before .before .before .before .before .before .before .before .before .before) .0, c .before .before .before .before .before .before .before .before .before .before .before .before .before .before .before .before .before .before .before .before .before .before .before .before .before .before .before .before .pre .1, c .before .before .before .before .before .before .before .before .before .before .before .before .before .before .before .before .before .before .before .before .loop .inv .3, c .before .before .before .before .before .before .before .before .before .before .before .before .before .before .sweep-rows .kept .1 .1 .0 ∙ c .before .before .before .before .before .before .before .before .before .before .before .before .before .before .before .before .before .before .before .before .loop .inv .2)
 
 add-sweeps : tie.Need-add-sweeps Inv-loop μ-loop
-add-sweeps c = omega (arith, c .before .before .before .before .before .before .before .before .before .before .before .before .before .before .before .before .before .before .before .before .before .before .before .before .before .loop .inv .4)
+add-sweeps c = omega (arith, c .before .before .before .before .before .before .before .before .before .before .before .before .before .before .before .before .before .before .before .before .before .before .before .loop .inv .4)
 
 hasten-requires : tie.Need-hasten-requires Inv-loop μ-loop
-hasten-requires c κs =
-    let after = swept (c .before .before .before .before .before .before .before .before .before .before .before .before .before .before .before .before .before) in
-    (after .0, c .before .before .before .before .before .before .before .before .before .before .before .before .before .before .before .before .before .before .before .before .before .before .before .before .before .before .before .before .before .before .before .before .before .before .before .pre .1, c .before .before .before .before .before .before .before .before .before .before .before .before .before .before .before .before .before .before .before .before .before .before .before .before .before .before .before .before .before .before .before .before .before .before .before .pre .2, after .1, c .before .before .before .before .before .before .before .before .before .before .before .before .before .before .before .before .before .before .before .before .before .before .before .before .before .before .before .before .before .before .before .before .before .before .before .pre .6, c .before .before .before .before .note-drops .ensures)
+hasten-requires c κs = 
+    let after = swept (c .before .before .before .before .before .before .before .before .before .before .before .before .before .before .before .before .before .before .before) in
+    (after .0, c .before .before .before .before .before .before .before .before .before .before .before .before .before .before .before .before .before .before .before .before .before .before .before .before .before .before .before .before .before .before .before .before .before .pre .1, c .before .before .before .before .before .before .before .before .before .before .before .before .before .before .before .before .before .before .before .before .before .before .before .before .before .before .before .before .before .before .before .before .before .pre .2, after .1, c .before .before .before .before .before .before .before .before .before .before .before .before .before .before .before .before .before .before .before .before .before .before .before .before .before .before .before .before .before .before .before .before .before .pre .6, c .before .before .before .before .note-drops .ensures)
 
 loop-less : tie.Need-loop-less Inv-loop μ-loop
-loop-less c =
-    lt-of-le-of-lt (sum-lower (now (c .before .before .before .before .before .before .before .before .before .before .before .before .before .before .before .before .before .before .before .before .before .before .before .before .before .before .before .before .before .before .before .before .before .before .before .before .before .before .before .before .args .words)) _ _ (c .before .before .before .before .hasten .ensures .below)) (c .before .before .before .before .before .before .before .before .before .before .before .before .before .before .before .before .before .before .before .before .before .before .sweep-rows .ensures .lower (not-false _ (c .before .before .before .before .before .before .before .before .before .before .before .before .before .if1 .left)))
+loop-less c = 
+    lt-of-le-of-lt (sum-lower (now (c .before .before .before .before .before .before .before .before .before .before .before .before .before .before .before .before .before .before .before .before .before .before .before .before .before .before .before .before .before .before .before .before .before .before .before .before .before .before .args .words)) _ _ (c .before .before .before .before .hasten .ensures .below)) (c .before .before .before .before .before .before .before .before .before .before .before .before .before .before .before .before .before .before .before .before .before .before .before .before .sweep-rows .ensures .lower (not-false _ (c .before .before .before .before .before .before .before .before .before .before .before .before .before .if1 .left)))
 
 loop-again : tie.Need-loop-again Inv-loop μ-loop
-loop-again c =
+loop-again c = 
     let hastened = c .before .before .before .before .hasten .ensures in (
-      descended-ready _ _ (ask-regular _ _ _) _ _ _ (swept (c .before .before .before .before .before .before .before .before .before .before .before .before .before .before .before .before .before .before .before .before .before .before) .0) hastened,
+      descended-ready _ _ (ask-regular _ _ _) _ _ _ (swept (c .before .before .before .before .before .before .before .before .before .before .before .before .before .before .before .before .before .before .before .before .before .before .before .before) .0) hastened,
       hastened .held,
-      copied (c .before .before .before .before .before .before .before .before .before .before .before .before .before .before .before .before .before .before .before .before .before .before .before .before .before .before .before .before .before),
-      hastened .drops-small .one-each ∙ sym (c .before .before .before .before .before .before .before .before .before .before .before .before .before .before .before .before .before .before .before .before .before .before .before .before .before .before .before .before .before .before .before .before .before .before .before .before .before .before .before .before .pre .1),
+      c .before .before .before .before .before .before .before .before .before .before .before .before .before .before .before .before .before .before .before .before .before .before .before .before .sweep-rows .kept .1 .1 .0 ∙ c .before .before .before .before .before .before .before .before .before .before .before .before .before .before .before .before .before .before .before .before .before .before .before .before .before .before .before .before .before .before .loop .inv .2,
+      hastened .drops-small .one-each ∙ sym (c .before .before .before .before .before .before .before .before .before .before .before .before .before .before .before .before .before .before .before .before .before .before .before .before .before .before .before .before .before .before .before .before .before .before .before .before .before .before .pre .1),
       omega arith,
-      c .before .before .before .before .before .before .before .before .before .before .before .before .before .before .before .before .before .before .before .before .before .before .sweep-rows .kept .1 .1 .1 .1 .1 .0 ∙ c .before .before .before .before .before .before .before .before .before .before .before .before .before .before .before .before .before .before .before .before .before .before .before .before .before .before .before .before .before .before .before .before .loop .inv .5,
-      c .before .before .before .before .before .before .before .before .before .before .before .before .before .before .before .before .before .before .before .before .before .before .sweep-rows .kept .1 .1 .1 .1 .1 .1 .0 ∙ c .before .before .before .before .before .before .before .before .before .before .before .before .before .before .before .before .before .before .before .before .before .before .before .before .before .before .before .before .before .before .before .before .loop .inv .6,
-      c .before .before .before .before .before .before .before .before .before .before .before .before .before .before .before .before .before .before .before .before .before .before .sweep-rows .kept .1 .1 .1 .1 .1 .1 .1 .0 ∙ c .before .before .before .before .before .before .before .before .before .before .before .before .before .before .before .before .before .before .before .before .before .before .before .before .before .before .before .before .before .before .before .before .loop .inv .7,
+      c .before .before .before .before .before .before .before .before .before .before .before .before .before .before .before .before .before .before .before .before .before .before .before .before .sweep-rows .kept .1 .1 .1 .1 .1 .1 .0 ∙ c .before .before .before .before .before .before .before .before .before .before .before .before .before .before .before .before .before .before .before .before .before .before .before .before .before .before .before .before .before .before .loop .inv .5,
+      c .before .before .before .before .before .before .before .before .before .before .before .before .before .before .before .before .before .before .before .before .before .before .before .before .sweep-rows .kept .1 .1 .1 .1 .1 .1 .1 .0 ∙ c .before .before .before .before .before .before .before .before .before .before .before .before .before .before .before .before .before .before .before .before .before .before .before .before .before .before .before .before .before .before .loop .inv .6,
+      c .before .before .before .before .before .before .before .before .before .before .before .before .before .before .before .before .before .before .before .before .before .before .before .before .sweep-rows .kept .1 .1 .1 .1 .1 .1 .1 .1 .0 ∙ c .before .before .before .before .before .before .before .before .before .before .before .before .before .before .before .before .before .before .before .before .before .before .before .before .before .before .before .before .before .before .loop .inv .7,
     )
 
 pub settle-at-once-spec : {M : Type 1} → statement M
@@ -122,7 +115,6 @@ settle-at-once-spec =
     Inv-loop
     μ-loop
     loop-holds
-    copy-back-requires
     sweep-rows-requires
     same-length
     same-length-2

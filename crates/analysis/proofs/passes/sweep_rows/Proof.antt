@@ -3,7 +3,7 @@ use borrow.Author.Needs.{needs}
 use mathlib.Core.Path.{_≡_, _∙_, sym}
 use mathlib.Core.Logic.{⊎-elim, inl, inr}
 use Prim.Native.Nat.{_-_}
-use lib.ListN.{length, length-set}
+use lib.ListN.{length, getD, length-set}
 use denote.Ref.{now}
 use Rattle.rows.specs.Words.{rowCount, sheetOf}
 use Rattle.rows.proofs.Words.{sheet-rows}
@@ -14,22 +14,23 @@ use Rattle.analysis.proofs.passes.sweep_rows.Statement.{statement}
 use Rattle.analysis.proofs.passes.sweep_rows.Tie as tie
 
 abbrev Inv-loop : tie.InvT-loop
-Inv-loop words bounds₀ processors method count taken₀ pending₀ room₀ moved₀ seen₀ row₀ bounds taken pending room moved seen row =
+Inv-loop words bounds₀ before₀ processors method count taken₀ pending₀ room₀ moved₀ seen₀ row₀ bounds before taken pending room moved seen row =
     (length bounds ≡ count)
     × Sweeping (sheetOf words) (askOf words processors method) bounds₀ bounds moved seen row
     × (length taken ≡ count)
     × (length pending ≡ count)
     × (length room ≡ count)
+    × (length before ≡ count)
 
 abbrev μ-loop : tie.MeasureT-loop
-μ-loop words bounds₀ processors method count taken₀ pending₀ room₀ moved₀ seen₀ row₀ bounds taken pending room moved seen row = count - row
+μ-loop words bounds₀ before₀ processors method count taken₀ pending₀ room₀ moved₀ seen₀ row₀ bounds before taken pending room moved seen row = count - row
 
 loop-holds : tie.Need-loop-holds Inv-loop μ-loop
-loop-holds c = (omega (arith, c .before .before .before .before .before .pre .0 .one-each, c .before .before .before .before .before .pre .1), sweep-start _ _ _, c .before .before .before .before .before .pre .5, c .before .before .before .before .before .pre .6, c .before .before .before .before .before .pre .7)
+loop-holds c = (omega (arith, c .before .before .before .before .before .before .pre .0 .one-each, c .before .before .before .before .before .before .pre .1), sweep-start _ _ _, c .before .before .before .before .before .before .pre .5, c .before .before .before .before .before .before .pre .6, c .before .before .before .before .before .before .pre .7, c .before .before .before .before .before .before .pre .8)
 
 answer-quickly-in-requires : tie.Need-answer-quickly-in-requires Inv-loop μ-loop
-answer-quickly-in-requires c κs =
-    let p = c .before .before .before .before .before .before .before .before .before .before .before in
+answer-quickly-in-requires c κs = 
+    let p = c .before .before .before .before .before .before .before .before .before .before .before .before in
     let q = c .before .before .before .before .before .loop in
     let regular = ask-regular (now (p .args .words)) (p .args .processors) (p .args .method) in (
       ready-lower _ _ regular _ _ (p .pre .0) (sweeping-held _ _ regular _ (p .pre .3) _ _ _ _ (q .inv .1))
@@ -50,16 +51,25 @@ bound-or-requires : tie.Need-bound-or-requires Inv-loop μ-loop
 bound-or-requires c κs = search needs
 
 with-mark-requires : tie.Need-with-mark-requires Inv-loop μ-loop
-with-mark-requires c κs = (omega (arith, c .before .before .before .before .before .before .before .before .before .before .before .before .before .before .before .before .before .before .before .before .pre .0 .rows .at-most, c .before .before .before .before .before .before .before .before .before .before .before .before .before .before .before .before .before .before .before .before .pre .1), c .before .before .before .before .before .before .before .before .before .before .before .before .before .before .loop .inv .1 .small)
+with-mark-requires c κs = (omega (arith, c .before .before .before .before .before .before .before .before .before .before .before .before .before .before .before .before .before .before .before .before .before .pre .0 .rows .at-most, c .before .before .before .before .before .before .before .before .before .before .before .before .before .before .before .before .before .before .before .before .before .pre .1), c .before .before .before .before .before .before .before .before .before .before .before .before .before .before .loop .inv .1 .small)
 
-cast-if1 : tie.Need-cast-if1 Inv-loop μ-loop
-cast-if1 c = search needs
+cast-old : tie.Need-cast-old Inv-loop μ-loop
+cast-old c = search needs
 
-mul-if1 : tie.Need-mul-if1 Inv-loop μ-loop
-mul-if1 c = search needs
+mul-old : tie.Need-mul-old Inv-loop μ-loop
+mul-old c = search needs
 
-slice-read-if1 : tie.Need-slice-read-if1 Inv-loop μ-loop
-slice-read-if1 c = search needs
+slice-read-old : tie.Need-slice-read-old Inv-loop μ-loop
+slice-read-old c = search needs
+
+cast-before : tie.Need-cast-before Inv-loop μ-loop
+cast-before c = search needs
+
+mul-before : tie.Need-mul-before Inv-loop μ-loop
+mul-before c = search needs
+
+slice-write-before : tie.Need-slice-write-before Inv-loop μ-loop
+slice-write-before c = omega (arith, c .before .before .before .before .before .before .before .before .before .before .before .before .before .before .before .before .loop .inv .5)
 
 cast-bounds : tie.Need-cast-bounds Inv-loop μ-loop
 cast-bounds c = search needs
@@ -78,8 +88,8 @@ loop-less c = search needs
 
 loop-again : tie.Need-loop-again Inv-loop μ-loop
 unfolding askOf
-loop-again c =
-    let p = c .before .before .before .before .before .before .before .before .before .before .before .before .before .before .before .before .before .before .before .before .before .before .before in
+loop-again c = 
+    let p = c .before .before .before .before .before .before .before .before .before .before .before .before .before .before .before .before .before .before .before .before .before .before .before .before in
     let q = c .before .before .before .before .before .before .before .before .before .before .before .before .before .before .before .before .before .loop in
     let words = now (p .args .words) in
     let asked = c .before .before .before .before .before .before .before .before .before .before .before .answer-quickly-in in
@@ -94,23 +104,27 @@ loop-again c =
       asked .kept .1 .1 .1 .1 .1 .1 .0 ∙ q .inv .2,
       asked .kept .1 .1 .1 .1 .1 .1 .1 .0 ∙ q .inv .3,
       asked .kept .1 .1 .1 .1 .1 .1 .1 .1 .0 ∙ q .inv .4,
+      length-set (q .before) (q .row) (getD (q .bounds) (q .row) 0) ∙ q .inv .5,
     )
 
 same-length : tie.Need-same-length Inv-loop μ-loop
-same-length c = c .before .loop .inv .0 ∙ c .before .before .before .before .before .before .before .pre .1 ∙ sym (c .before .before .before .before .before .before .before .pre .0 .one-each)
+same-length c = c .before .loop .inv .0 ∙ c .before .before .before .before .before .before .before .before .pre .1 ∙ sym (c .before .before .before .before .before .before .before .before .pre .0 .one-each)
 
 same-length-2 : tie.Need-same-length-2 Inv-loop μ-loop
-same-length-2 c = c .before .loop .inv .2 ∙ sym (c .before .before .before .before .before .before .before .pre .5)
+same-length-2 c = c .before .loop .inv .5 ∙ sym (c .before .before .before .before .before .before .before .before .pre .8)
 
 same-length-3 : tie.Need-same-length-3 Inv-loop μ-loop
-same-length-3 c = c .before .loop .inv .3 ∙ sym (c .before .before .before .before .before .before .before .pre .6)
+same-length-3 c = c .before .loop .inv .2 ∙ sym (c .before .before .before .before .before .before .before .before .pre .5)
 
 same-length-4 : tie.Need-same-length-4 Inv-loop μ-loop
-same-length-4 c = c .before .loop .inv .4 ∙ sym (c .before .before .before .before .before .before .before .pre .7)
+same-length-4 c = c .before .loop .inv .3 ∙ sym (c .before .before .before .before .before .before .before .before .pre .6)
+
+same-length-5 : tie.Need-same-length-5 Inv-loop μ-loop
+same-length-5 c = c .before .loop .inv .4 ∙ sym (c .before .before .before .before .before .before .before .before .pre .7)
 
 returns : tie.Need-returns Inv-loop μ-loop
-returns c =
-    let p = c .before .before .before .before .before .before .before in
+returns c = 
+    let p = c .before .before .before .before .before .before .before .before in
     let q = c .before .loop in
     let words = now (p .args .words) in
     let done : q .row ≡ rowCount words = omega (arith, q .inv .1 .upto, p .pre .1, sheet-rows words) in
@@ -127,9 +141,12 @@ sweep-rows-spec =
     deadline-requires
     bound-or-requires
     with-mark-requires
-    cast-if1
-    mul-if1
-    slice-read-if1
+    cast-old
+    mul-old
+    slice-read-old
+    cast-before
+    mul-before
+    slice-write-before
     cast-bounds
     mul-bounds
     slice-write-bounds
@@ -140,4 +157,5 @@ sweep-rows-spec =
     same-length-2
     same-length-3
     same-length-4
+    same-length-5
     returns)
