@@ -1,5 +1,5 @@
 -- Why a jump skips no solution: each term rises one a step to its room, so the sum is not below a concave function of the steps.
-use mathlib.Core.Path.{_≡_, refl, _∙_, ap}
+use mathlib.Core.Path.{_≡_, refl, ap}
 use mathlib.Core.List.{List, _++_}
 use Prim.Native.Nat.{ℕ, _+_, _*_, _-_, _/_, _≤_, _<_, min}
 use native.Mathlib.Nat.{le-trans, le-min, le-div-iff-mul-le, div-lt-iff-lt-mul, mul-comm}

@@ -6,7 +6,7 @@ use native.Mathlib.Nat.{add-zero, add-assoc, le-antisymm, le-trans}
 use native.Mathlib.Omega.{arith}
 use lib.ListN.{length, getD}
 use Rattle.laws.specs.Sum.{total}
-use Rattle.laws.specs.Places.{over, Places}
+use Rattle.laws.specs.Places.{over}
 use Rattle.laws.proofs.Sum.{total-fewer, total-within}
 use Rattle.laws.proofs.Places.{Staying, Sifted}
 use Rattle.model.specs.Interference.{workOf}

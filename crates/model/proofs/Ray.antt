@@ -8,6 +8,7 @@ use Prim.Native.Nat.{ℕ, zero, suc, _+_, _*_, _-_, _≤_, _<_, zero-le}
 use native.Mathlib.Nat.{le-refl, le-of-suc-le, suc-mul, mul-zero, lt-suc-self, eq-or-lt-of-le}
 use native.Mathlib.Numerals.{add-one}
 use native.Mathlib.Omega.{arith}
+use borrow.Author.Count.{below-more}
 use borrow.Author.Tests.{lt-ltb, le-ltb}
 use lib.Dec.{ltb}
 use lib.ListN.{length, getD, set, length-set}
@@ -123,10 +124,6 @@ pub along-lower : (n : ℕ) (R drops : List ℕ) (t : ℕ) → Below n (along n 
 unfolding along
 along-lower n R drops t i h = rw (listed-at (λ i. getD R i 0 - t * getD drops i 0) n i h) (omega arith)
 
--- A row before the next is this one or before it.
-last : {j k : ℕ} → j < k + 1 → j ≤ k
-last before = omega arith
-
 -- A ray in progress: the rows before k have made the first step, and each of them that moves is allowed so many.
 pub record OnRay (s : Sheet) (ask : Ask) (R drops : List ℕ) (k steps : ℕ) (now : List ℕ) : Type 0 where
   pub place : now ≡ stage (s .rows) R drops k 0
@@ -211,10 +208,7 @@ module _ (s : Sheet) (ask : Ask) (regular : Regular s ask) (R drops : List ℕ) 
           held =
               down s ask regular now k (getD now k 0 - getD drops k 0) (on .held) h
               (rw (along-none (s .rows) now drops (on .held .one-each)) at (first (falls 0 some))) (omega arith);
-          allowed = λ j before some t less.
-              ⊎-elim (λ (here : j ≡ k). rw here (its-own t less))
-              (λ (earlier : j < k). on .allowed j earlier some t (omega arith))
-              (eq-or-lt-of-le (last before));
+          allowed = below-more _ k (λ j earlier some t less. on .allowed j earlier some t (omega arith)) (λ some t less. its-own t less);
         }
       where
         first : turn s ask k (along (s .rows) now drops 0) ≤ getD now k 0 - (0 + 1) * getD drops k 0
@@ -237,10 +231,7 @@ module _ (s : Sheet) (ask : Ask) (regular : Regular s ask) (R drops : List ℕ) 
               ∙ stage-next (s .rows) R drops k 0 h
               ∙ ap (λ (j : ℕ). stage (s .rows) R drops j 0) (sym (add-one k));
           held = on .held;
-          allowed = λ j before some t less.
-              ⊎-elim (λ (here : j ≡ k). absurd (moves j here some))
-              (λ (earlier : j < k). on .allowed j earlier some t less)
-              (eq-or-lt-of-le (last before));
+          allowed = below-more _ k (on .allowed) (λ some t less. absurd (moves k refl some));
         }
       where
         unmoved : getD R k 0 ≡ getD R k 0 - (0 + 1) * getD drops k 0

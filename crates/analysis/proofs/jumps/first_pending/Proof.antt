@@ -3,9 +3,8 @@ use borrow.Author.Needs.{needs}
 use native.Mathlib.Omega.{arith}
 use mathlib.Core.Path.{_≡_, refl, _∙_, ap}
 use mathlib.Core.Logic.{⊎-elim}
-use Prim.Native.Nat.{ℕ, _+_, _-_, _≤_, _<_}
-use lib.ListN.{length, getD, set, length-set}
-use denote.Ref.{now}
+use Prim.Native.Nat.{ℕ, _-_, _≤_, _<_}
+use lib.ListN.{length, getD, length-set}
 use Rattle.laws.proofs.Places.{Staying, Sifted, none-staying, one-stays, one-leaves, sift-stays, sift-leaves}
 use Rattle.laws.specs.Sum.{total}
 use Rattle.analysis.proofs.jumps.first_pending.Statement.{statement}

@@ -42,7 +42,7 @@ sweep-rows-requires c κs = let q = c .before .before .before .before .before .l
 swept : (c : tie.After-sweep-rows Inv-loop μ-loop) → let p = c .before .before .before .before .before .before .before .before .before .before .before .before .before .before in
     Ready (now (p .args .words)) (c .sweep-rows .last .1 .0)
     × Held (sheetOf (now (p .args .words))) (askOf (now (p .args .words)) (p .args .processors) (p .args .method)) (c .sweep-rows .last .1 .0)
-swept c = 
+swept c =
     let p = c .before .before .before .before .before .before .before .before .before .before .before .before .before .before in
     let q = c .before .before .before .before .before .before .loop in
     let regular = ask-regular (now (p .args .words)) (p .args .processors) (p .args .method) in
@@ -70,7 +70,7 @@ same-length-6 : tie.Need-same-length-6 Inv-loop μ-loop
 same-length-6 c = c .before .before .before .before .before .before .before .before .before .before .before .sweep-rows .kept .1 .1 .1 .1 .1 .1 .1 .1 .0 ∙ c .before .before .before .before .before .before .before .before .before .before .before .before .before .before .before .before .before .loop .inv .7 ∙ sym (c .before .before .before .before .before .before .before .before .before .before .before .before .before .before .before .before .before .before .before .before .before .before .before .before .before .pre .9)
 
 returns : tie.Need-returns Inv-loop μ-loop
-returns c = 
+returns c =
     let p = c .before .before .before .before .before .before .before .before .before .before .before .before .before .before .before .before .before .before .before .before .before .before .before .before .before in
     let words = now (p .args .words) in
     let ask = askOf words (p .args .processors) (p .args .method) in
@@ -87,16 +87,16 @@ add-sweeps : tie.Need-add-sweeps Inv-loop μ-loop
 add-sweeps c = omega (arith, c .before .before .before .before .before .before .before .before .before .before .before .before .before .before .before .before .before .before .before .before .before .before .before .loop .inv .4)
 
 hasten-requires : tie.Need-hasten-requires Inv-loop μ-loop
-hasten-requires c κs = 
+hasten-requires c κs =
     let after = swept (c .before .before .before .before .before .before .before .before .before .before .before .before .before .before .before .before .before .before .before) in
     (after .0, c .before .before .before .before .before .before .before .before .before .before .before .before .before .before .before .before .before .before .before .before .before .before .before .before .before .before .before .before .before .before .before .before .before .pre .1, c .before .before .before .before .before .before .before .before .before .before .before .before .before .before .before .before .before .before .before .before .before .before .before .before .before .before .before .before .before .before .before .before .before .pre .2, after .1, c .before .before .before .before .before .before .before .before .before .before .before .before .before .before .before .before .before .before .before .before .before .before .before .before .before .before .before .before .before .before .before .before .before .pre .6, c .before .before .before .before .note-drops .ensures)
 
 loop-less : tie.Need-loop-less Inv-loop μ-loop
-loop-less c = 
+loop-less c =
     lt-of-le-of-lt (sum-lower (now (c .before .before .before .before .before .before .before .before .before .before .before .before .before .before .before .before .before .before .before .before .before .before .before .before .before .before .before .before .before .before .before .before .before .before .before .before .before .before .args .words)) _ _ (c .before .before .before .before .hasten .ensures .below)) (c .before .before .before .before .before .before .before .before .before .before .before .before .before .before .before .before .before .before .before .before .before .before .before .before .sweep-rows .ensures .lower (not-false _ (c .before .before .before .before .before .before .before .before .before .before .before .before .before .if1 .left)))
 
 loop-again : tie.Need-loop-again Inv-loop μ-loop
-loop-again c = 
+loop-again c =
     let hastened = c .before .before .before .before .hasten .ensures in (
       descended-ready _ _ (ask-regular _ _ _) _ _ _ (swept (c .before .before .before .before .before .before .before .before .before .before .before .before .before .before .before .before .before .before .before .before .before .before .before .before) .0) hastened,
       hastened .held,

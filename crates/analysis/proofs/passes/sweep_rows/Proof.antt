@@ -29,7 +29,7 @@ loop-holds : tie.Need-loop-holds Inv-loop μ-loop
 loop-holds c = (omega (arith, c .before .before .before .before .before .before .pre .0 .one-each, c .before .before .before .before .before .before .pre .1), sweep-start _ _ _, c .before .before .before .before .before .before .pre .5, c .before .before .before .before .before .before .pre .6, c .before .before .before .before .before .before .pre .7, c .before .before .before .before .before .before .pre .8)
 
 answer-quickly-in-requires : tie.Need-answer-quickly-in-requires Inv-loop μ-loop
-answer-quickly-in-requires c κs = 
+answer-quickly-in-requires c κs =
     let p = c .before .before .before .before .before .before .before .before .before .before .before .before in
     let q = c .before .before .before .before .before .loop in
     let regular = ask-regular (now (p .args .words)) (p .args .processors) (p .args .method) in (
@@ -88,7 +88,7 @@ loop-less c = search needs
 
 loop-again : tie.Need-loop-again Inv-loop μ-loop
 unfolding askOf
-loop-again c = 
+loop-again c =
     let p = c .before .before .before .before .before .before .before .before .before .before .before .before .before .before .before .before .before .before .before .before .before .before .before .before in
     let q = c .before .before .before .before .before .before .before .before .before .before .before .before .before .before .before .before .before .loop in
     let words = now (p .args .words) in
@@ -123,7 +123,7 @@ same-length-5 : tie.Need-same-length-5 Inv-loop μ-loop
 same-length-5 c = c .before .loop .inv .4 ∙ sym (c .before .before .before .before .before .before .before .before .pre .7)
 
 returns : tie.Need-returns Inv-loop μ-loop
-returns c = 
+returns c =
     let p = c .before .before .before .before .before .before .before .before in
     let q = c .before .loop in
     let words = now (p .args .words) in

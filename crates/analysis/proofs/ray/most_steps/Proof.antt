@@ -4,9 +4,8 @@ use native.Mathlib.Omega.{arith}
 use denote.Ref.{now}
 use Prim.Native.Nat.{ℕ, _+_, _*_, _-_, _≤_, _<_, min}
 use lib.ListN.{getD}
-use mathlib.Core.Logic.{⊎-elim}
-use mathlib.Core.Path.{_≡_}
-use native.Mathlib.Nat.{le-trans, add-le-add, mul-le-mul, le-refl, eq-or-lt-of-le}
+use borrow.Author.Count.{below-more}
+use native.Mathlib.Nat.{le-trans, add-le-add, mul-le-mul, le-refl}
 use Rattle.rows.specs.Words.{rowCount, sheetOf}
 use Rattle.analysis.proofs.ray.most_steps.Statement.{statement}
 use Rattle.analysis.proofs.ray.most_steps.Tie as tie
@@ -37,20 +36,13 @@ loop-less c = search needs
 fewer : (steps more drop cost bound : ℕ) → steps ≤ more → more * drop + cost ≤ bound → steps * drop + cost ≤ bound
 fewer steps more drop cost bound less room = le-trans (add-le-add (mul-le-mul less (le-refl drop)) (le-refl cost)) room
 
--- A row before the next is this one or before it.
-last : {i row : ℕ} → i < row + 1 → i ≤ row
-last h = omega arith
-
 loop-again : tie.Need-loop-again Inv-loop μ-loop
 loop-again c =
     let p = c .before .before .before .before .before .before .before in
     let q = c .before .before .before .loop in
     let least = c .lesser .ensures in (
-      (λ i h.
-          ⊎-elim
-          (λ (here : i ≡ q .row). rw here (fewer (c .lesser .result) (c .before .row-room .result) _ _ _ (omega arith) (c .before .row-room .ensures)))
-          (λ (before : i < q .row). fewer (c .lesser .result) (q .most) _ _ _ (omega arith) (q .inv .0 i before))
-          (eq-or-lt-of-le (last h))),
+      below-more _ (q .row) (λ i before. fewer (c .lesser .result) (q .most) _ _ _ (omega arith) (q .inv .0 i before))
+          (fewer (c .lesser .result) (c .before .row-room .result) _ _ _ (omega arith) (c .before .row-room .ensures)),
       omega arith,
     )
 

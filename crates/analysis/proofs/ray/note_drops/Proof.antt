@@ -2,9 +2,8 @@
 use borrow.Author.Needs.{needs}
 use native.Mathlib.Omega.{arith}
 use mathlib.Core.Path.{_≡_, _∙_}
-use mathlib.Core.Logic.{⊎-elim}
+use borrow.Author.Count.{below-more}
 use Prim.Native.Nat.{ℕ, _+_, _-_, _≤_, _<_}
-use native.Mathlib.Nat.{eq-or-lt-of-le}
 use lib.ListN.{length, getD, length-set}
 use lib.Seq.{getD-set-same, getD-set-other}
 use denote.Ref.{now}
@@ -72,10 +71,6 @@ add-row c = search needs
 loop-less : tie.Need-loop-less Inv-loop μ-loop
 loop-less c = search needs
 
--- A row before the next is this one or before it.
-last : {i row : ℕ} → i < row + 1 → i ≤ row
-last h = omega arith
-
 loop-again : tie.Need-loop-again Inv-loop μ-loop
 loop-again c =
     let p = c .before .before .before .before .before .before .before .before .before .before .before in
@@ -86,13 +81,9 @@ loop-again c =
     let sized = sound-row words (p .pre .0 .rows) (q .row) inside in (
       omega arith,
       length-set (q .drops) (q .row) (c .next-drop .result) ∙ q .inv .1,
-      λ i h.
-          ⊎-elim
-          (λ (here : i ≡ q .row).
-          rw (here, getD-set-same (q .drops) (q .row) (c .next-drop .result) 0 (omega arith)) (omega (arith, c .next-drop .ensures, range .1)))
-          (λ (before : i < q .row).
-          rw (getD-set-other (q .drops) (q .row) i (c .next-drop .result) 0 (λ here. omega arith)) (q .inv .2 i before))
-          (eq-or-lt-of-le (last h)),
+      below-more _ (q .row)
+          (λ i before. rw (getD-set-other (q .drops) (q .row) i (c .next-drop .result) 0 (λ here. omega arith)) (q .inv .2 i before))
+          (rw (getD-set-same (q .drops) (q .row) (c .next-drop .result) 0 (omega arith)) (omega (arith, c .next-drop .ensures, range .1))),
     )
 
 same-length : tie.Need-same-length Inv-loop μ-loop

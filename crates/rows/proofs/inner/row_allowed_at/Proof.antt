@@ -4,7 +4,7 @@ use mathlib.Core.Path.{_≡_, refl, sym}
 use mathlib.Core.Bool.{Bool, true, false}
 use Prim.Native.Nat.{ℕ}
 use native.Mathlib.Omega.{arith}
-use lib.ListN.{getD, List·getD-eq-default}
+use lib.ListN.{List·getD-eq-default}
 use denote.Ref.{now}
 use Rattle.model.specs.Sheet.{triples, rowAllowed, rowAllowedAt}
 use Rattle.model.proofs.Sheet.{allowed-sized}
