@@ -30,17 +30,22 @@ cost-requires : tie.Need-cost-requires Inv-loop μ-loop
 cost-requires c κs = search needs
 
 sub-cap : tie.Need-sub-cap Inv-loop μ-loop
-sub-cap c = let sized = sound-row (now (c .before .before .before .before .before .args .words)) (c .before .before .before .before .before .pre .0 .rows) (c .before .before .before .before .before .args .row) (c .before .before .before .before .before .pre .1) in omega arith
+sub-cap c =
+    let p = c .before .before .before .before .before in
+    let sized = sound-row (now (p .args .words)) (p .pre .0 .rows) (p .args .row) (p .pre .1) in omega arith
 
 add-cap : tie.Need-add-cap Inv-loop μ-loop
-add-cap c = let sized = sound-row (now (c .before .before .before .before .before .args .words)) (c .before .before .before .before .before .pre .0 .rows) (c .before .before .before .before .before .args .row) (c .before .before .before .before .before .pre .1) in omega arith
+add-cap c =
+    let p = c .before .before .before .before .before in
+    let sized = sound-row (now (p .args .words)) (p .pre .0 .rows) (p .args .row) (p .pre .1) in omega arith
 
 loop-holds : tie.Need-loop-holds Inv-loop μ-loop
 loop-holds c = (omega arith, c .before .before .before .before .before .pre .3, listed-none _ _)
 
 capped-share-requires : tie.Need-capped-share-requires Inv-loop μ-loop
 capped-share-requires c κs =
-    (c .before .before .before .before .before .before .before .pre .0, c .before .before .before .before .before .before .before .pre .1, omega (arith, c .before .before .before .before .before .before .before .pre .2), record { by-deadline = c .before .before .before .deadline .ensures; by-cost = ap₂ (λ d c. d - c + 1) (c .before .before .before .deadline .ensures) (c .before .before .cost .ensures) })
+    let p = c .before .before .before .before .before .before .before in
+    (p .pre .0, p .pre .1, omega (arith, p .pre .2), record { by-deadline = c .before .before .before .deadline .ensures; by-cost = ap₂ (λ d c. d - c + 1) (c .before .before .before .deadline .ensures) (c .before .before .cost .ensures) })
 
 cast-out : tie.Need-cast-out Inv-loop μ-loop
 cast-out c = search needs
@@ -59,21 +64,27 @@ loop-less c = search needs
 
 loop-again : tie.Need-loop-again Inv-loop μ-loop
 loop-again c =
+    let p = c .before .before .before .before .before .before .before .before in
     let q = c .before .before .loop in
     let share = c .capped-share in (
       omega arith,
       length-set (q .out) (q .other) (share .result) ∙ q .inv .1,
-      listed-more _ (q .other) (now (c .before .before .before .before .before .before .before .before .args .out)) (q .out) (share .result) (omega (arith, c .before .before .before .before .before .before .before .before .pre .3)) (q .inv .2) (share .ensures),
+      listed-more _ (q .other) (now (p .args .out)) (q .out) (share .result) (omega (arith, p .pre .3)) (q .inv .2) (share .ensures),
     )
 
 mul-out-2 : tie.Need-mul-out-2 Inv-loop μ-loop
 mul-out-2 c = search needs
 
 slice-write-out-2 : tie.Need-slice-write-out-2 Inv-loop μ-loop
-slice-write-out-2 c = omega (arith, c .before .before .before .before .before .before .before .pre .1, c .before .before .before .before .before .before .before .pre .2, c .before .loop .inv .1)
+slice-write-out-2 c =
+    let p = c .before .before .before .before .before .before .before in
+    omega (arith, p .pre .1, p .pre .2, c .before .loop .inv .1)
 
 same-length : tie.Need-same-length Inv-loop μ-loop
-same-length c = length-set (c .before .loop .out) (c .before .before .before .before .before .before .before .args .row) 0 ∙ c .before .loop .inv .1 ∙ sym (c .before .before .before .before .before .before .before .pre .3)
+same-length c =
+    let p = c .before .before .before .before .before .before .before in
+    let q = c .before .loop in
+    length-set (q .out) (p .args .row) 0 ∙ q .inv .1 ∙ sym (p .pre .3)
 
 returns : tie.Need-returns Inv-loop μ-loop
 unfolding shares

@@ -15,16 +15,22 @@ abbrev μ-loop : tie.MeasureT-loop
 μ-loop words bounds taken pending rows processors x cap near most least far₀ far = far
 
 line-excludes-requires : tie.Need-line-excludes-requires Inv-loop μ-loop
-line-excludes-requires c κs = (c .before .before .before .before .pre .0, c .before .before .before .before .pre .1, c .before .before .before .before .pre .2, c .before .before .before .before .pre .3, c .before .before .before .before .pre .4, omega (arith, c .before .before .before .before .pre .5), omega (arith, c .before .before .before .before .pre .6))
+line-excludes-requires c κs =
+    let p = c .before .before .before .before in
+    (p .pre .0, p .pre .1, p .pre .2, p .pre .3, p .pre .4, omega (arith, p .pre .5), omega (arith, p .pre .6))
 
 returns : tie.Need-returns Inv-loop μ-loop
-returns c = (c .before .before .before .before .before .before .pre .7, c .before .before .before .before .before .before .pre .8)
+returns c =
+    let p = c .before .before .before .before .before .before in
+    (p .pre .7, p .pre .8)
 
 less-requires : tie.Need-less-requires Inv-loop μ-loop
 less-requires c κs = search needs
 
 add-least : tie.Need-add-least Inv-loop μ-loop
-add-least c = omega (arith, c .less .ensures, c .before .before .before .before .before .before .before .pre .5, c .before .before .before .before .before .before .before .pre .7)
+add-least c =
+    let p = c .before .before .before .before .before .before .before in
+    omega (arith, c .less .ensures, p .pre .5, p .pre .7)
 
 loop-holds : tie.Need-loop-holds Inv-loop μ-loop
 loop-holds c = omega arith
@@ -36,15 +42,19 @@ add-line-excludes-2 : tie.Need-add-line-excludes-2 Inv-loop μ-loop
 add-line-excludes-2 c = omega (arith, c .before .loop .inv, c .before .before .before .before .before .before .before .before .before .pre .6)
 
 line-excludes-requires-2 : tie.Need-line-excludes-requires-2 Inv-loop μ-loop
-line-excludes-requires-2 c κs = (c .before .before .before .before .before .before .before .before .before .pre .0, c .before .before .before .before .before .before .before .before .before .pre .1, c .before .before .before .before .before .before .before .before .before .pre .2, c .before .before .before .before .before .before .before .before .before .pre .3, c .before .before .before .before .before .before .before .before .before .pre .4, omega (arith, c .before .loop .inv, c .before .before .before .before .before .before .before .before .before .pre .5), omega (arith, c .before .loop .inv, c .before .before .before .before .before .before .before .before .before .pre .6))
+line-excludes-requires-2 c κs =
+    let p = c .before .before .before .before .before .before .before .before .before in
+    let q = c .before .loop in
+    (p .pre .0, p .pre .1, p .pre .2, p .pre .3, p .pre .4, omega (arith, q .inv, p .pre .5), omega (arith, q .inv, p .pre .6))
 
 returns-2 : tie.Need-returns-2 Inv-loop μ-loop
 returns-2 c =
+    let q = c .before .before .before .loop in
     let p = c .before .before .before .before .before .before .before .before .before .before .before in
     let here = sym (c .before .before .before .before .before .before .line-excludes .ensures) ∙ not-false _ (c .before .before .before .before .before .if1 .left) in
     let there = sym (c .before .line-excludes2 .ensures) ∙ c .if2 .taken in (
-      c .before .before .before .loop .inv,
-      chord-excludes _ _ _ (p .pre .0) _ _ _ _ (p .args .x) (p .args .cap) (c .before .before .before .loop .far) (p .pre .2) (leb-true _ _ here) (leb-true _ _ there),
+      q .inv,
+      chord-excludes _ _ _ (p .pre .0) _ _ _ _ (p .args .x) (p .args .cap) (q .far) (p .pre .2) (leb-true _ _ here) (leb-true _ _ there),
     )
 
 loop-less : tie.Need-loop-less Inv-loop μ-loop
@@ -54,7 +64,9 @@ loop-again : tie.Need-loop-again Inv-loop μ-loop
 loop-again c = omega (arith, c .before .before .before .loop .inv)
 
 returns-3 : tie.Need-returns-3 Inv-loop μ-loop
-returns-3 c = (c .before .before .before .before .before .before .before .before .before .pre .7, c .before .before .before .before .before .before .before .before .before .pre .8)
+returns-3 c =
+    let p = c .before .before .before .before .before .before .before .before .before in
+    (p .pre .7, p .pre .8)
 
 pub far-jump-spec : {M : Type 1} → statement M
 far-jump-spec =

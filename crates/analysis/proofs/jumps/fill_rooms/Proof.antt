@@ -42,14 +42,18 @@ shared-slice-read-term-and-room : tie.Need-shared-slice-read-term-and-room Inv-l
 shared-slice-read-term-and-room c = omega (arith, c .before .before .before .before .before .before .before .before .pre .2 .there)
 
 term-and-room-requires : tie.Need-term-and-room-requires Inv-loop μ-loop
-term-and-room-requires c κs = (c .before .before .before .before .before .before .before .before .pre .0, c .before .before .before .before .before .before .before .before .pre .2 .inside _ (omega arith), c .before .before .before .before .before .before .before .before .pre .1, c .before .before .before .before .before .before .before .before .pre .3)
+term-and-room-requires c κs =
+    let p = c .before .before .before .before .before .before .before .before in
+    (p .pre .0, p .pre .2 .inside _ (omega arith), p .pre .1, p .pre .3)
 
 -- What a turn of the loop adds is within the cap.
 capped : (c : tie.After-term-and-room Inv-loop μ-loop) → c .term-and-room .result .term ≤ c .before .before .before .before .before .before .before .before .before .args .cap
 capped c = rw (c .term-and-room .ensures .0) (term-within-cap _ _ _ _ _ _)
 
 add-sum : tie.Need-add-sum Inv-loop μ-loop
-add-sum c = omega (arith, c .before .before .before .before .before .before .before .before .before .before .pre .0 .rows .at-most, c .before .before .before .before .before .before .before .before .before .before .pre .2 .few, c .before .before .before .before .before .before .before .before .before .before .pre .4, capped (c .before))
+add-sum c =
+    let p = c .before .before .before .before .before .before .before .before .before .before in
+    omega (arith, p .pre .0 .rows .at-most, p .pre .2 .few, p .pre .4, capped (c .before))
 
 cast-room : tie.Need-cast-room Inv-loop μ-loop
 cast-room c = search needs

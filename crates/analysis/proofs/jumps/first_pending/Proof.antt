@@ -41,7 +41,9 @@ mul-pending : tie.Need-mul-pending Inv-loop μ-loop
 mul-pending c = search needs
 
 slice-write-pending : tie.Need-slice-write-pending Inv-loop μ-loop
-slice-write-pending c = omega (arith, c .before .before .loop .inv .1, c .before .before .loop .inv .3 .fewer)
+slice-write-pending c =
+    let q = c .before .before .loop in
+    omega (arith, q .inv .1, q .inv .3 .fewer)
 
 add-left : tie.Need-add-left Inv-loop μ-loop
 add-left c = omega (arith, c .before .before .before .loop .inv .3 .fewer, c .before .before .before .before .pre .2)

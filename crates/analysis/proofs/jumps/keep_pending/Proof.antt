@@ -40,8 +40,11 @@ slice-read-place : tie.Need-slice-read-place Inv-loop μ-loop
 slice-read-place c = omega (arith, c .before .before .before .before .before .before .before .pre .2 .places .there, c .before .before .loop .inv .1)
 
 -- What is read is the place of a row.
-place-inside : (c : tie.In-loop Inv-loop μ-loop) → getD (c .before .loop .pending) (c .before .loop .next) 0 < rowCount (now (c .before .before .before .before .before .before .args .words))
-place-inside c = rw (c .before .loop .inv .2 (c .before .loop .next) (omega arith)) (c .before .before .before .before .before .before .pre .2 .places .inside (c .before .loop .next) (omega arith))
+place-inside : (c : tie.In-loop Inv-loop μ-loop) → let q = c .before .loop in
+    getD (q .pending) (q .next) 0 < rowCount (now (c .before .before .before .before .before .before .args .words))
+place-inside c =
+    let q = c .before .loop in
+    rw (q .inv .2 (q .next) (omega arith)) (c .before .before .before .before .before .before .pre .2 .places .inside (q .next) (omega arith))
 
 cast-share : tie.Need-cast-share Inv-loop μ-loop
 cast-share c = omega (arith, place-inside (c .before), c .before .before .before .before .before .before .before .pre .0 .rows .at-most)
@@ -53,7 +56,9 @@ shared-slice-read-share : tie.Need-shared-slice-read-share Inv-loop μ-loop
 shared-slice-read-share c = omega (arith, place-inside (c .before .before), c .before .before .before .before .before .before .before .before .pre .1)
 
 term-requires : tie.Need-term-requires Inv-loop μ-loop
-term-requires c κs = (c .before .before .before .before .before .before .before .before .pre .0, place-inside (c .before .before), c .before .before .before .before .before .before .before .before .pre .1, c .before .before .before .before .before .before .before .before .pre .3, c .before .before .before .before .before .before .before .before .pre .4)
+term-requires c κs =
+    let p = c .before .before .before .before .before .before .before .before in
+    (p .pre .0, place-inside (c .before .before), p .pre .1, p .pre .3, p .pre .4)
 
 cast-pending : tie.Need-cast-pending Inv-loop μ-loop
 cast-pending c = search needs
@@ -62,18 +67,26 @@ mul-pending : tie.Need-mul-pending Inv-loop μ-loop
 mul-pending c = search needs
 
 -- What is written goes where a place was.
-there : (c : tie.After-term Inv-loop μ-loop) → c .before .before .before .before .loop .left < length (c .before .before .before .before .loop .pending)
-there c = omega (arith, c .before .before .before .before .before .before .before .before .before .pre .2 .places .there, c .before .before .before .before .loop .inv .1, c .before .before .before .before .loop .inv .3 .fewer)
+there : (c : tie.After-term Inv-loop μ-loop) → let q = c .before .before .before .before .loop in
+    q .left < length (q .pending)
+there c =
+    let q = c .before .before .before .before .loop in
+    omega (arith, c .before .before .before .before .before .before .before .before .before .pre .2 .places .there, q .inv .1, q .inv .3 .fewer)
 
 slice-write-pending : tie.Need-slice-write-pending Inv-loop μ-loop
 slice-write-pending c = there c
 
 add-left : tie.Need-add-left Inv-loop μ-loop
-add-left c = omega (arith, c .before .before .before .before .before .loop .inv .3 .fewer, c .before .before .before .before .before .before .before .before .before .before .pre .2 .places .few, c .before .before .before .before .before .before .before .before .before .before .pre .0 .rows .at-most)
+add-left c =
+    let p = c .before .before .before .before .before .before .before .before .before .before in
+    omega (arith, c .before .before .before .before .before .loop .inv .3 .fewer, p .pre .2 .places .few, p .pre .0 .rows .at-most)
 
 -- A row that adds its whole share is settled.
-leaves : (c : tie.After-term Inv-loop μ-loop) → getD (now (c .before .before .before .before .before .before .before .before .before .args .taken)) (getD (c .before .before .before .before .loop .pending) (c .before .before .before .before .loop .next) 0) 0 ≤ c .term .result → Sifting (now (c .before .before .before .before .before .before .before .before .before .args .words)) (now (c .before .before .before .before .before .before .before .before .before .args .bounds)) (now (c .before .before .before .before .before .before .before .before .before .args .taken)) (now (c .before .before .before .before .before .before .before .before .before .args .pending)) (rowCount (now (c .before .before .before .before .before .before .before .before .before .args .words))) (c .before .before .before .before .before .before .before .before .before .args .rows .left) (c .before .before .before .before .before .before .before .before .before .args .rows .settled) (c .before .before .before .before .before .before .before .before .before .args .x) (c .before .before .before .before .before .before .before .before .before .args .cap) (c .before .before .before .before .before .before .before .before .before .pre .2) (set (c .before .before .before .before .loop .pending) (c .before .before .before .before .loop .left) (getD (c .before .before .before .before .loop .pending) (c .before .before .before .before .loop .next) 0)) (c .before .before .before .before .loop .next + 1) (c .before .before .before .before .loop .left) (c .before .before .before .before .loop .settled + getD (now (c .before .before .before .before .before .before .before .before .before .args .taken)) (getD (c .before .before .before .before .loop .pending) (c .before .before .before .before .loop .next) 0) 0)
-leaves c = λ whole d.
+leaves : (c : tie.After-term Inv-loop μ-loop) → let p = c .before .before .before .before .before .before .before .before .before in
+    let q = c .before .before .before .before .loop in
+    getD (now (p .args .taken)) (getD (q .pending) (q .next) 0) 0 ≤ c .term .result
+    → Sifting (now (p .args .words)) (now (p .args .bounds)) (now (p .args .taken)) (now (p .args .pending)) (rowCount (now (p .args .words))) (p .args .rows .left) (p .args .rows .settled) (p .args .x) (p .args .cap) (p .pre .2) (set (q .pending) (q .left) (getD (q .pending) (q .next) 0)) (q .next + 1) (q .left) (q .settled + getD (now (p .args .taken)) (getD (q .pending) (q .next) 0) 0)
+leaves c whole d =
     let p = c .before .before .before .before .before .before .before .before .before in
     let q = c .before .before .before .before .loop in
     sift-leaves (q .pending) (q .next) (q .left) _ (termOf (sheetOf (now (p .args .words))) (now (p .args .bounds)) (now (p .args .taken)) (p .args .x + d) (p .args .cap + d)) (λ j. getD (now (p .args .pending)) j 0) _ (q .settled) (q .inv .4 d) (q .inv .2 (q .next) (omega arith)) _
@@ -81,9 +94,10 @@ leaves c = λ whole d.
 
 add-settled : tie.Need-add-settled Inv-loop μ-loop
 add-settled c =
+    let q = c .before .before .before .before .before .loop in
     let p = c .before .before .before .before .before .before .before .before .before .before in
     let small : rowCount (now (p .args .words)) * p .args .cap ≤ 64_000_000 = mul-le-mul (p .pre .0 .rows .at-most) (p .pre .5) in
-    omega (arith, small, sifted-within _ _ _ _ _ _ _ _ _ (p .pre .2) (set (c .before .before .before .before .before .loop .pending) (c .before .before .before .before .before .loop .left) (getD (c .before .before .before .before .before .loop .pending) (c .before .before .before .before .before .loop .next) 0)) (c .before .before .before .before .before .loop .next + 1) (c .before .before .before .before .before .loop .left) _ (omega arith) (leaves (c .before) (omega (arith, c .if1 .left))))
+    omega (arith, small, sifted-within _ _ _ _ _ _ _ _ _ (p .pre .2) (set (q .pending) (q .left) (getD (q .pending) (q .next) 0)) (q .next + 1) (q .left) _ (omega arith) (leaves (c .before) (omega (arith, c .if1 .left))))
 
 add-next : tie.Need-add-next Inv-loop μ-loop
 add-next c = search needs

@@ -15,7 +15,9 @@ use Rattle.analysis.proofs.jumps.line_excludes.Statement.{statement}
 use Rattle.analysis.proofs.jumps.line_excludes.Tie as tie
 
 line-sum-requires : tie.Need-line-sum-requires
-line-sum-requires c κs = (c .before .before .before .before .pre .0, c .before .before .before .before .pre .1, c .before .before .before .before .pre .2, c .before .before .before .before .pre .5, c .before .before .before .before .pre .6)
+line-sum-requires c κs =
+    let p = c .before .before .before .before in
+    (p .pre .0, p .pre .1, p .pre .2, p .pre .5, p .pre .6)
 
 -- Processors times cap is within 64 millions.
 product-small : (s : tie.Start) → s .args .processors * s .args .cap ≤ 64_000_000
@@ -51,7 +53,9 @@ add-result c =
     )
 
 returns : tie.Need-returns
-returns c = ap (λ (n : ℕ). leb (4_294_967_296 * (c .before .before .before .before .before .before .args .processors * c .before .before .before .before .before .before .args .cap)) (4_294_967_296 * c .before .before .before .before .before .before .args .rows .settled + n)) (c .before .line-sum .ensures)
+returns c =
+    let p = c .before .before .before .before .before .before in
+    ap (λ (n : ℕ). leb (4_294_967_296 * (p .args .processors * p .args .cap)) (4_294_967_296 * p .args .rows .settled + n)) (c .before .line-sum .ensures)
 
 pub line-excludes-spec : {M : Type 1} → statement M
 line-excludes-spec =

@@ -36,14 +36,18 @@ shared-slice-read-line : tie.Need-shared-slice-read-line Inv-loop μ-loop
 shared-slice-read-line c = omega (arith, c .before .before .before .before .before .before .before .pre .2 .there)
 
 line-requires : tie.Need-line-requires Inv-loop μ-loop
-line-requires c κs = (c .before .before .before .before .before .before .before .pre .0, c .before .before .before .before .before .before .before .pre .2 .inside _ (omega arith), c .before .before .before .before .before .before .before .pre .1, c .before .before .before .before .before .before .before .pre .3)
+line-requires c κs =
+    let p = c .before .before .before .before .before .before .before in
+    (p .pre .0, p .pre .2 .inside _ (omega arith), p .pre .1, p .pre .3)
 
 -- What a turn of the loop adds is within the cap.
 capped : (c : tie.After-line Inv-loop μ-loop) → c .line .result ≤ 4_294_967_296 * c .before .before .before .before .before .before .before .before .args .cap
 capped c = rw (c .line .ensures) (line-within-cap _ _ _ _ _ _)
 
 add-sum : tie.Need-add-sum Inv-loop μ-loop
-add-sum c = omega (arith, c .before .before .before .before .before .before .before .before .pre .0 .rows .at-most, c .before .before .before .before .before .before .before .before .pre .2 .few, c .before .before .before .before .before .before .before .before .pre .4, capped c)
+add-sum c =
+    let p = c .before .before .before .before .before .before .before .before in
+    omega (arith, p .pre .0 .rows .at-most, p .pre .2 .few, p .pre .4, capped c)
 
 add-next : tie.Need-add-next Inv-loop μ-loop
 add-next c = search needs

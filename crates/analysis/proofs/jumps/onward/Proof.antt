@@ -36,21 +36,25 @@ add-cap : tie.Need-add-cap
 add-cap c = omega (arith, x-small (c .before .before .before .before .before))
 
 fill-rooms-requires : tie.Need-fill-rooms-requires
-fill-rooms-requires c κs = (
-  c .before .before .before .before .before .before .pre .0 .ready,
-  prepared-length _ _ _ _ _ _ (c .before .before .before .before .before .before .pre .0),
-  c .before .before .before .before .before .before .pre .1 .places,
-  omega (arith, x-small (c .before .before .before .before .before .before)),
-  cap-small (c .before .before .before .before .before .before),
-  omega (arith, c .before .before .before .before .before .before .pre .6, c .before .before .before .before .before .before .pre .1 .places .few),
-)
+fill-rooms-requires c κs =
+    let p = c .before .before .before .before .before .before in (
+      p .pre .0 .ready,
+      prepared-length _ _ _ _ _ _ (p .pre .0),
+      p .pre .1 .places,
+      omega (arith, x-small (c .before .before .before .before .before .before)),
+      cap-small (c .before .before .before .before .before .before),
+      omega (arith, p .pre .6, p .pre .1 .places .few),
+    )
 
 -- What the others add is within 64 millions: it is what is settled and what was summed up.
 sum-small : (s : tie.Start) → total (termOf (sheetOf (now (s .args .words))) (now (s .args .bounds)) (now (s .args .taken)) (s .args .x) (s .args .x - s .args .own + 1)) (rowCount (now (s .args .words))) ≤ 64_000_000
 sum-small s = terms-sum-small _ _ _ _ _ _ (s .pre .0) (s .args .x) _ (cap-small s)
 
-is-sum : (c : tie.After-fill-rooms) → c .before .before .before .before .before .before .before .args .rows .settled + c .fill-rooms .result ≡ total (termOf (sheetOf (now (c .before .before .before .before .before .before .before .args .words))) (now (c .before .before .before .before .before .before .before .args .bounds)) (now (c .before .before .before .before .before .before .before .args .taken)) (c .before .before .before .before .before .before .before .args .x) (c .before .before .before .before .before .before .before .args .x - c .before .before .before .before .before .before .before .args .own + 1)) (rowCount (now (c .before .before .before .before .before .before .before .args .words)))
-is-sum c = ap (λ (n : ℕ). c .before .before .before .before .before .before .before .args .rows .settled + n) (c .fill-rooms .ensures .0) ∙ pending-now _ _ _ _ _ _ _ _ _ (c .before .before .before .before .before .before .before .pre .1)
+is-sum : (c : tie.After-fill-rooms) → let p = c .before .before .before .before .before .before .before in
+    p .args .rows .settled + c .fill-rooms .result ≡ total (termOf (sheetOf (now (p .args .words))) (now (p .args .bounds)) (now (p .args .taken)) (p .args .x) (p .args .x - p .args .own + 1)) (rowCount (now (p .args .words)))
+is-sum c =
+    let p = c .before .before .before .before .before .before .before in
+    ap (λ (n : ℕ). p .args .rows .settled + n) (c .fill-rooms .ensures .0) ∙ pending-now _ _ _ _ _ _ _ _ _ (p .pre .1)
 
 add-sum : tie.Need-add-sum
 add-sum c = omega (arith, is-sum (c .before .before .before), sum-small (c .before .before .before .before .before .before .before .before .before .before))
@@ -76,21 +80,25 @@ sub-most : tie.Need-sub-most
 sub-most c = search needs
 
 jump-requires : tie.Need-jump-requires
-jump-requires c κs = (
-  rooms-filled _ _ _ _ _ _ (c .before .before .before .before .before .before .before .before .before .before .before .before .pre .0) _ _ _ _ (c .before .before .before .before .before .before .before .before .before .before .before .before .args .x) _ (c .before .before .before .before .before .before .before .before .before .before .before .before .pre .1 .places) (omega (arith, c .before .before .before .before .before .before .before .before .before .before .before .before .pre .6, c .before .before .before .before .before .before .before .before .before .before .before .before .pre .1 .places .few)) (c .before .before .before .before .before .fill-rooms .ensures .1),
-  omega (arith, is-sum (c .before .before .before .before .before), sum-small (c .before .before .before .before .before .before .before .before .before .before .before .before)),
-  c .before .before .before .before .before .before .before .before .before .before .before .before .pre .7,
-  omega (arith, top-small (c .before .before .before .before .before .before .before .before .before .before .before .before)),
-)
+jump-requires c κs =
+    let p = c .before .before .before .before .before .before .before .before .before .before .before .before in (
+      rooms-filled _ _ _ _ _ _ (p .pre .0) _ _ _ _ (p .args .x) _ (p .pre .1 .places) (omega (arith, p .pre .6, p .pre .1 .places .few)) (c .before .before .before .before .before .fill-rooms .ensures .1),
+      omega (arith, is-sum (c .before .before .before .before .before), sum-small (c .before .before .before .before .before .before .before .before .before .before .before .before)),
+      p .pre .7,
+      omega (arith, top-small (c .before .before .before .before .before .before .before .before .before .before .before .before)),
+    )
 
 -- Past the test the sum fills the supply, and the jump excludes all that it passes.
-full : (c : tie.Else1) → c .before .before .before .before .before .before .before .before .before .before .before .args .processors * (c .before .before .before .before .before .before .before .before .before .before .before .args .x - c .before .before .before .before .before .before .before .before .before .before .before .args .own + 1) ≤ c .before .before .before .before .before .before .before .before .before .before .before .args .rows .settled + c .before .before .before .before .fill-rooms .result
+full : (c : tie.Else1) → let p = c .before .before .before .before .before .before .before .before .before .before .before in
+    p .args .processors * (p .args .x - p .args .own + 1) ≤ p .args .rows .settled + c .before .before .before .before .fill-rooms .result
 full c = omega (arith, c .if1 .left)
 
-excluded : (c : tie.After-jump) → Excluded (sheetOf (now (c .before .before .before .before .before .before .before .before .before .before .before .before .before .args .words))) (now (c .before .before .before .before .before .before .before .before .before .before .before .before .before .args .bounds)) (now (c .before .before .before .before .before .before .before .before .before .before .before .before .before .args .taken)) (now (c .before .before .before .before .before .before .before .before .before .before .before .before .before .args .pending)) (c .before .before .before .before .before .before .before .before .before .before .before .before .before .args .rows .left) (c .before .before .before .before .before .before .before .before .before .before .before .before .before .args .rows .settled) (c .before .before .before .before .before .before .before .before .before .before .before .before .before .args .processors) (c .before .before .before .before .before .before .before .before .before .before .before .before .before .args .x) (c .before .before .before .before .before .before .before .before .before .before .before .before .before .args .x - c .before .before .before .before .before .before .before .before .before .before .before .before .before .args .own + 1) (c .jump .result)
+excluded : (c : tie.After-jump) → let p = c .before .before .before .before .before .before .before .before .before .before .before .before .before in
+    Excluded (sheetOf (now (p .args .words))) (now (p .args .bounds)) (now (p .args .taken)) (now (p .args .pending)) (p .args .rows .left) (p .args .rows .settled) (p .args .processors) (p .args .x) (p .args .x - p .args .own + 1) (c .jump .result)
 excluded c =
+    let p = c .before .before .before .before .before .before .before .before .before .before .before .before .before in
     let sum = c .before .before .before .before .before .before .fill-rooms in
-    jump-excludes _ _ _ _ _ _ (c .before .before .before .before .before .before .before .before .before .before .before .before .before .pre .0) _ _ _ _ (c .before .before .before .before .before .before .before .before .before .before .before .before .before .args .rows .settled) (c .before .before .before .before .before .before .before .before .before .before .before .before .before .args .x) (c .before .before .before .before .before .before .before .before .before .before .before .before .before .args .x - c .before .before .before .before .before .before .before .before .before .before .before .before .before .args .own + 1) _ _ (c .jump .result) (c .before .before .before .before .before .before .before .before .before .before .before .before .before .pre .1 .places) (sum .ensures .1)
+    jump-excludes _ _ _ _ _ _ (p .pre .0) _ _ _ _ (p .args .rows .settled) (p .args .x) (p .args .x - p .args .own + 1) _ _ (c .jump .result) (p .pre .1 .places) (sum .ensures .1)
     (rw (← sum .ensures .0) (full (c .before .before))) (rw (← sum .ensures .0)) (c .jump .ensures)
 
 -- What is no further than the deadline is within a million, and past it is onward if all to it is excluded.
@@ -117,12 +125,13 @@ returns-2 c = past (c .before .before .before .before .before .before .before .b
 
 far-jump-requires : tie.Need-far-jump-requires
 far-jump-requires c κs =
-    let small = past-small (c .before .before .before .before .before .before .before .before .before .before .before .before .before .before) (c .before .before .before .before .before .before .before .before .before .before .before .before .before .before .args .top - c .before .before .before .before .before .before .before .before .before .before .before .before .before .before .args .x) (omega arith) in (
-      c .before .before .before .before .before .before .before .before .before .before .before .before .before .before .pre .0 .ready,
-      prepared-length _ _ _ _ _ _ (c .before .before .before .before .before .before .before .before .before .before .before .before .before .before .pre .0),
-      c .before .before .before .before .before .before .before .before .before .before .before .before .before .before .pre .1 .places,
+    let p = c .before .before .before .before .before .before .before .before .before .before .before .before .before .before in
+    let small = past-small (c .before .before .before .before .before .before .before .before .before .before .before .before .before .before) (p .args .top - p .args .x) (omega arith) in (
+      p .pre .0 .ready,
+      prepared-length _ _ _ _ _ _ (p .pre .0),
+      p .pre .1 .places,
       omega (arith, is-sum (c .before .before .before .before .before .before .before), sum-small (c .before .before .before .before .before .before .before .before .before .before .before .before .before .before)),
-      c .before .before .before .before .before .before .before .before .before .before .before .before .before .before .pre .7,
+      p .pre .7,
       small,
       omega (arith, small, cap-within (c .before .before .before .before .before .before .before .before .before .before .before .before .before .before)),
       c .before .jump .ensures .within,

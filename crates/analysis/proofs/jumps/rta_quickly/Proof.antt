@@ -38,49 +38,62 @@ deadline-requires : tie.Need-deadline-requires Inv-loop μ-loop
 deadline-requires c κs = search needs
 
 first-pending-requires : tie.Need-first-pending-requires Inv-loop μ-loop
-first-pending-requires c κs = (prepared-length _ _ _ _ _ _ (c .before .before .before .before .before .before .before .before .pre .0), c .before .before .before .before .before .before .before .before .pre .1, omega (arith, c .before .before .before .before .before .before .before .before .pre .0 .counted, c .before .before .before .before .before .before .before .before .pre .0 .ready .rows .at-most))
+first-pending-requires c κs =
+    let p = c .before .before .before .before .before .before .before .before in
+    (prepared-length _ _ _ _ _ _ (p .pre .0), p .pre .1, omega (arith, p .pre .0 .counted, p .pre .0 .ready .rows .at-most))
 
 loop-holds : tie.Need-loop-holds Inv-loop μ-loop
-loop-holds c = let sized = sound-row (now (c .before .before .before .before .before .before .before .before .before .before .before .args .words)) (c .before .before .before .before .before .before .before .before .before .before .before .pre .0 .ready .rows) (c .before .before .before .before .before .before .before .before .before .before .before .args .row) (c .before .before .before .before .before .before .before .before .before .before .before .pre .0 .inside) in
+loop-holds c =
+    let p = c .before .before .before .before .before .before .before .before .before .before .before in
+    let sized = sound-row (now (p .args .words)) (p .pre .0 .ready .rows) (p .args .row) (p .pre .0 .inside) in
     rw (c .before .before .before .before .before .cost .ensures) (
       climbed-first _ _ (rtaRight-from-cost _ _ _ _ _),
       sized .by-deadline,
-      c .before .before .before .before .before .before .before .before .before .before .before .pre .2,
+      p .pre .2,
       omega arith,
-      c .before .before .first-pending .kept .1 .0 ∙ c .before .before .before .before .before .before .before .before .before .before .before .pre .1,
-      pending-first _ _ _ (c .before .before .before .before .before .before .before .before .before .before .before .pre .0 .ready) _ _ _ _ _ (omega arith) (omega arith) (rw (c .before .before .before .before .before .before .before .before .before .before .before .pre .0 .counted) at (c .before .before .first-pending .ensures)),
+      c .before .before .first-pending .kept .1 .0 ∙ p .pre .1,
+      pending-first _ _ _ (p .pre .0 .ready) _ _ _ _ _ (omega arith) (omega arith) (rw (p .pre .0 .counted) at (c .before .before .first-pending .ensures)),
     )
 
 add-step : tie.Need-add-step Inv-loop μ-loop
-add-step c = let sized = sound-row (now (c .before .before .before .before .before .before .before .before .before .before .before .before .args .words)) (c .before .before .before .before .before .before .before .before .before .before .before .before .pre .0 .ready .rows) (c .before .before .before .before .before .before .before .before .before .before .before .before .args .row) (c .before .before .before .before .before .before .before .before .before .before .before .before .pre .0 .inside) in omega (arith, c .loop .inv .1, c .loop .inv .3)
+add-step c =
+    let p = c .before .before .before .before .before .before .before .before .before .before .before .before in
+    let sized = sound-row (now (p .args .words)) (p .pre .0 .ready .rows) (p .args .row) (p .pre .0 .inside) in omega (arith, c .loop .inv .1, c .loop .inv .3)
 
 sub-still-pending : tie.Need-sub-still-pending Inv-loop μ-loop
 sub-still-pending c = omega (arith, c .before .before .before .before .before .before .before .cost .ensures, c .before .loop .inv .0 .from)
 
 add-still-pending : tie.Need-add-still-pending Inv-loop μ-loop
-add-still-pending c = let sized = sound-row (now (c .before .before .before .before .before .before .before .before .before .before .before .before .before .args .words)) (c .before .before .before .before .before .before .before .before .before .before .before .before .before .pre .0 .ready .rows) (c .before .before .before .before .before .before .before .before .before .before .before .before .before .args .row) (c .before .before .before .before .before .before .before .before .before .before .before .before .before .pre .0 .inside) in omega (arith, c .before .loop .inv .1)
+add-still-pending c =
+    let p = c .before .before .before .before .before .before .before .before .before .before .before .before .before in
+    let sized = sound-row (now (p .args .words)) (p .pre .0 .ready .rows) (p .args .row) (p .pre .0 .inside) in omega (arith, c .before .loop .inv .1)
 
 still-pending-requires : tie.Need-still-pending-requires Inv-loop μ-loop
-still-pending-requires c κs = let sized = sound-row (now (c .before .before .before .before .before .before .before .before .before .before .before .before .before .args .words)) (c .before .before .before .before .before .before .before .before .before .before .before .before .before .pre .0 .ready .rows) (c .before .before .before .before .before .before .before .before .before .before .before .before .before .args .row) (c .before .before .before .before .before .before .before .before .before .before .before .before .before .pre .0 .inside) in (
-  c .before .before .before .before .before .before .before .before .before .before .before .before .before .pre .0 .ready,
-  prepared-length _ _ _ _ _ _ (prepared-counted _ _ _ _ _ _ (c .before .before .before .before .before .before .before .before .before .before .before .before .before .pre .0)),
-  rw (c .before .before .before .before .before .before .before .cost .ensures) (c .before .loop .inv .5),
-  omega (arith, c .before .loop .inv .0 .from),
-  omega (arith, c .before .loop .inv .1),
-  omega (arith, c .before .loop .inv .1, c .before .before .before .before .before .before .before .cost .ensures),
-)
+still-pending-requires c κs =
+    let p = c .before .before .before .before .before .before .before .before .before .before .before .before .before in
+    let q = c .before .loop in
+    let sized = sound-row (now (p .args .words)) (p .pre .0 .ready .rows) (p .args .row) (p .pre .0 .inside) in (
+      p .pre .0 .ready,
+      prepared-length _ _ _ _ _ _ (prepared-counted _ _ _ _ _ _ (p .pre .0)),
+      rw (c .before .before .before .before .before .before .before .cost .ensures) (q .inv .5),
+      omega (arith, q .inv .0 .from),
+      omega (arith, q .inv .1),
+      omega (arith, q .inv .1, c .before .before .before .before .before .before .before .cost .ensures),
+    )
 
 onward-requires : tie.Need-onward-requires Inv-loop μ-loop
-onward-requires c κs = (
-  prepared-counted _ _ _ _ _ _ (c .before .before .before .before .before .before .before .before .before .before .before .before .before .before .before .before .before .before .pre .0),
-  c .before .before .before .before .still-pending .ensures,
-  c .before .before .before .before .before .before .before .before .before .before .before .before .cost .ensures,
-  c .before .before .before .before .before .before .before .before .before .before .before .deadline .ensures,
-  omega (arith, c .before .before .before .before .before .before .before .before .before .before .before .before .cost .ensures, c .before .before .before .before .before .before .loop .inv .0 .from),
-  omega (arith, c .before .before .before .before .before .before .before .before .before .before .before .deadline .ensures, c .before .before .before .before .before .before .loop .inv .1),
-  c .before .before .before .before .before .before .loop .inv .2 ∙ c .before .before .before .before .before .before .before .before .before .before .before .before .before .before .before .before .before .before .pre .0 .counted,
-  c .before .before .before .before .before .before .before .before .before .before .before .before .before .before .before .before .before .before .pre .3,
-)
+onward-requires c κs =
+    let p = c .before .before .before .before .before .before .before .before .before .before .before .before .before .before .before .before .before .before in
+    let q = c .before .before .before .before .before .before .loop in (
+      prepared-counted _ _ _ _ _ _ (p .pre .0),
+      c .before .before .before .before .still-pending .ensures,
+      c .before .before .before .before .before .before .before .before .before .before .before .before .cost .ensures,
+      c .before .before .before .before .before .before .before .before .before .before .before .deadline .ensures,
+      omega (arith, c .before .before .before .before .before .before .before .before .before .before .before .before .cost .ensures, q .inv .0 .from),
+      omega (arith, c .before .before .before .before .before .before .before .before .before .before .before .deadline .ensures, q .inv .1),
+      q .inv .2 ∙ p .pre .0 .counted,
+      p .pre .3,
+    )
 
 same-length : tie.Need-same-length Inv-loop μ-loop
 same-length c = c .before .before .before .before .before .before .before .before .still-pending .kept .1 .1 .1 .0 ∙ c .before .before .before .before .before .before .before .before .before .before .loop .inv .4 ∙ sym (c .before .before .before .before .before .before .before .before .before .before .before .before .before .before .before .before .before .before .before .before .before .before .pre .1)
@@ -99,7 +112,8 @@ returns c =
 further : (c : tie.Else1 Inv-loop μ-loop) → c .before .before .before .before .before .before .before .before .before .before .loop .x < c .before .before .before .onward .result
 further c = omega (arith, c .before .before .before .onward .ensures .from, c .if1 .left)
 
-climbed : (c : tie.Else1 Inv-loop μ-loop) → Climbed (rtaRight (sheetOf (now (c .before .before .before .before .before .before .before .before .before .before .before .before .before .before .before .before .before .before .before .before .before .before .args .words))) (c .before .before .before .before .before .before .before .before .before .before .before .before .before .before .before .before .before .before .before .before .before .before .args .processors) (c .before .before .before .before .before .before .before .before .before .before .before .before .before .before .before .before .before .before .before .before .before .before .args .row) (now (c .before .before .before .before .before .before .before .before .before .before .before .before .before .before .before .before .before .before .before .before .before .before .args .bounds))) ((sheetOf (now (c .before .before .before .before .before .before .before .before .before .before .before .before .before .before .before .before .before .before .before .before .before .before .args .words))) .cost (c .before .before .before .before .before .before .before .before .before .before .before .before .before .before .before .before .before .before .before .before .before .before .args .row)) (c .before .before .before .onward .result)
+climbed : (c : tie.Else1 Inv-loop μ-loop) → let p = c .before .before .before .before .before .before .before .before .before .before .before .before .before .before .before .before .before .before .before .before .before .before in
+    Climbed (rtaRight (sheetOf (now (p .args .words))) (p .args .processors) (p .args .row) (now (p .args .bounds))) ((sheetOf (now (p .args .words))) .cost (p .args .row)) (c .before .before .before .onward .result)
 climbed c = climbed-stretch _ (rtaRight-rises _ _ _ _) _ _ _ (c .before .before .before .before .before .before .before .before .before .before .loop .inv .0) (further c) (c .before .before .before .onward .ensures .passed)
 
 same-length-3 : tie.Need-same-length-3 Inv-loop μ-loop
@@ -116,16 +130,17 @@ loop-less : tie.Need-loop-less Inv-loop μ-loop
 loop-less c = omega (arith, further (c .before), c .if2 .left, c .before .before .before .before .before .before .before .before .before .before .before .before .before .before .before .before .deadline .ensures)
 
 loop-again : tie.Need-loop-again Inv-loop μ-loop
-loop-again c = (
-  climbed (c .before),
-  omega (arith, c .if2 .left, c .before .before .before .before .before .before .before .before .before .before .before .before .before .before .before .before .deadline .ensures),
-  c .before .before .before .before .onward .kept .1 .1 .1 .1 .1 .1 .1 .1 .1 .1 .1 .0 ∙ c .before .before .before .before .before .before .before .before .before .before .before .loop .inv .2,
-  omega (arith, further (c .before), c .before .before .before .before .before .before .before .before .before .before .before .loop .inv .3),
-  c .before .before .before .before .before .before .before .before .before .still-pending .kept .1 .1 .1 .0 ∙ c .before .before .before .before .before .before .before .before .before .before .before .loop .inv .4,
-  rw (c .before .before .before .before .before .before .before .before .before .before .before .before .before .before .before .before .before .cost .ensures) at
-      (pending-from _ _ _ _ _ _ _ _ _ (c .before .before .before .before .before .before .before .before .before .still-pending .ensures) (c .before .before .before .before .before .before .before .before .before .before .before .before .before .before .before .before .before .cost .result) (c .before .before .before .before .onward .result) (omega (arith, c .before .before .before .before .before .before .before .before .before .before .before .before .before .before .before .before .before .cost .ensures, c .before .before .before .before .before .before .before .before .before .before .before .loop .inv .0 .from))
-      refl (omega (arith, further (c .before)))),
-)
+loop-again c =
+    let q = c .before .before .before .before .before .before .before .before .before .before .before .loop in (
+      climbed (c .before),
+      omega (arith, c .if2 .left, c .before .before .before .before .before .before .before .before .before .before .before .before .before .before .before .before .deadline .ensures),
+      c .before .before .before .before .onward .kept .1 .1 .1 .1 .1 .1 .1 .1 .1 .1 .1 .0 ∙ q .inv .2,
+      omega (arith, further (c .before), q .inv .3),
+      c .before .before .before .before .before .before .before .before .before .still-pending .kept .1 .1 .1 .0 ∙ q .inv .4,
+      rw (c .before .before .before .before .before .before .before .before .before .before .before .before .before .before .before .before .before .cost .ensures) at
+          (pending-from _ _ _ _ _ _ _ _ _ (c .before .before .before .before .before .before .before .before .before .still-pending .ensures) (c .before .before .before .before .before .before .before .before .before .before .before .before .before .before .before .before .before .cost .result) (c .before .before .before .before .onward .result) (omega (arith, c .before .before .before .before .before .before .before .before .before .before .before .before .before .before .before .before .before .cost .ensures, q .inv .0 .from))
+          refl (omega (arith, further (c .before)))),
+    )
 
 pub rta-quickly-spec : {M : Type 1} → statement M
 rta-quickly-spec =

@@ -33,10 +33,14 @@ abbrev μ-loop : tie.MeasureT-loop
 μ-loop words bounds₀ before₀ drops₀ taken₀ pending₀ room₀ processors method count sweeps₀ bounds before drops taken pending room sweeps = boundsSum (sheetOf words) bounds
 
 loop-holds : tie.Need-loop-holds Inv-loop μ-loop
-loop-holds c = (c .before .before .before .before .before .before .before .pre .0, c .before .before .before .before .before .before .before .pre .3, c .before .before .before .before .before .before .before .pre .4, c .before .before .before .before .before .before .before .pre .5, omega arith, c .before .before .before .before .before .before .before .pre .7, c .before .before .before .before .before .before .before .pre .8, c .before .before .before .before .before .before .before .pre .9)
+loop-holds c =
+    let p = c .before .before .before .before .before .before .before in
+    (p .pre .0, p .pre .3, p .pre .4, p .pre .5, omega arith, p .pre .7, p .pre .8, p .pre .9)
 
 sweep-rows-requires : tie.Need-sweep-rows-requires Inv-loop μ-loop
-sweep-rows-requires c κs = let q = c .before .before .before .before .before .loop in (q .inv .0, c .before .before .before .before .before .before .before .before .before .before .before .before .before .pre .1, c .before .before .before .before .before .before .before .before .before .before .before .before .before .pre .2, q .inv .1, c .before .before .before .before .before .before .before .before .before .before .before .before .before .pre .6, q .inv .5, q .inv .6, q .inv .7, q .inv .2)
+sweep-rows-requires c κs =
+    let p = c .before .before .before .before .before .before .before .before .before .before .before .before .before in
+    let q = c .before .before .before .before .before .loop in (q .inv .0, p .pre .1, p .pre .2, q .inv .1, p .pre .6, q .inv .5, q .inv .6, q .inv .7, q .inv .2)
 
 -- After the sweep the bounds are in range and hold what bounds on the way hold.
 swept : (c : tie.After-sweep-rows Inv-loop μ-loop) → let p = c .before .before .before .before .before .before .before .before .before .before .before .before .before .before in
@@ -81,15 +85,18 @@ returns c =
     (ap (λ (n : ℕ). sweep (sheetOf words) ask n (q .bounds)) (sheet-rows words) ∙ still))
 
 note-drops-requires : tie.Need-note-drops-requires Inv-loop μ-loop
-note-drops-requires c κs = (swept (c .before .before .before .before .before .before .before .before .before .before .before .before .before .before) .0, c .before .before .before .before .before .before .before .before .before .before .before .before .before .before .before .before .before .before .before .before .before .before .before .before .before .before .before .before .pre .1, c .before .before .before .before .before .before .before .before .before .before .before .before .before .before .before .before .before .before .before .before .loop .inv .3, c .before .before .before .before .before .before .before .before .before .before .before .before .before .before .sweep-rows .kept .1 .1 .0 ∙ c .before .before .before .before .before .before .before .before .before .before .before .before .before .before .before .before .before .before .before .before .loop .inv .2)
+note-drops-requires c κs =
+    let q = c .before .before .before .before .before .before .before .before .before .before .before .before .before .before .before .before .before .before .before .before .loop in
+    (swept (c .before .before .before .before .before .before .before .before .before .before .before .before .before .before) .0, c .before .before .before .before .before .before .before .before .before .before .before .before .before .before .before .before .before .before .before .before .before .before .before .before .before .before .before .before .pre .1, q .inv .3, c .before .before .before .before .before .before .before .before .before .before .before .before .before .before .sweep-rows .kept .1 .1 .0 ∙ q .inv .2)
 
 add-sweeps : tie.Need-add-sweeps Inv-loop μ-loop
 add-sweeps c = omega (arith, c .before .before .before .before .before .before .before .before .before .before .before .before .before .before .before .before .before .before .before .before .before .before .before .loop .inv .4)
 
 hasten-requires : tie.Need-hasten-requires Inv-loop μ-loop
 hasten-requires c κs =
+    let p = c .before .before .before .before .before .before .before .before .before .before .before .before .before .before .before .before .before .before .before .before .before .before .before .before .before .before .before .before .before .before .before .before .before in
     let after = swept (c .before .before .before .before .before .before .before .before .before .before .before .before .before .before .before .before .before .before .before) in
-    (after .0, c .before .before .before .before .before .before .before .before .before .before .before .before .before .before .before .before .before .before .before .before .before .before .before .before .before .before .before .before .before .before .before .before .before .pre .1, c .before .before .before .before .before .before .before .before .before .before .before .before .before .before .before .before .before .before .before .before .before .before .before .before .before .before .before .before .before .before .before .before .before .pre .2, after .1, c .before .before .before .before .before .before .before .before .before .before .before .before .before .before .before .before .before .before .before .before .before .before .before .before .before .before .before .before .before .before .before .before .before .pre .6, c .before .before .before .before .note-drops .ensures)
+    (after .0, p .pre .1, p .pre .2, after .1, p .pre .6, c .before .before .before .before .note-drops .ensures)
 
 loop-less : tie.Need-loop-less Inv-loop μ-loop
 loop-less c =
@@ -97,15 +104,16 @@ loop-less c =
 
 loop-again : tie.Need-loop-again Inv-loop μ-loop
 loop-again c =
+    let q = c .before .before .before .before .before .before .before .before .before .before .before .before .before .before .before .before .before .before .before .before .before .before .before .before .before .before .before .before .before .before .loop in
     let hastened = c .before .before .before .before .hasten .ensures in (
       descended-ready _ _ (ask-regular _ _ _) _ _ _ (swept (c .before .before .before .before .before .before .before .before .before .before .before .before .before .before .before .before .before .before .before .before .before .before .before .before) .0) hastened,
       hastened .held,
-      c .before .before .before .before .before .before .before .before .before .before .before .before .before .before .before .before .before .before .before .before .before .before .before .before .sweep-rows .kept .1 .1 .0 ∙ c .before .before .before .before .before .before .before .before .before .before .before .before .before .before .before .before .before .before .before .before .before .before .before .before .before .before .before .before .before .before .loop .inv .2,
+      c .before .before .before .before .before .before .before .before .before .before .before .before .before .before .before .before .before .before .before .before .before .before .before .before .sweep-rows .kept .1 .1 .0 ∙ q .inv .2,
       hastened .drops-small .one-each ∙ sym (c .before .before .before .before .before .before .before .before .before .before .before .before .before .before .before .before .before .before .before .before .before .before .before .before .before .before .before .before .before .before .before .before .before .before .before .before .before .before .pre .1),
       omega arith,
-      c .before .before .before .before .before .before .before .before .before .before .before .before .before .before .before .before .before .before .before .before .before .before .before .before .sweep-rows .kept .1 .1 .1 .1 .1 .1 .0 ∙ c .before .before .before .before .before .before .before .before .before .before .before .before .before .before .before .before .before .before .before .before .before .before .before .before .before .before .before .before .before .before .loop .inv .5,
-      c .before .before .before .before .before .before .before .before .before .before .before .before .before .before .before .before .before .before .before .before .before .before .before .before .sweep-rows .kept .1 .1 .1 .1 .1 .1 .1 .0 ∙ c .before .before .before .before .before .before .before .before .before .before .before .before .before .before .before .before .before .before .before .before .before .before .before .before .before .before .before .before .before .before .loop .inv .6,
-      c .before .before .before .before .before .before .before .before .before .before .before .before .before .before .before .before .before .before .before .before .before .before .before .before .sweep-rows .kept .1 .1 .1 .1 .1 .1 .1 .1 .0 ∙ c .before .before .before .before .before .before .before .before .before .before .before .before .before .before .before .before .before .before .before .before .before .before .before .before .before .before .before .before .before .before .loop .inv .7,
+      c .before .before .before .before .before .before .before .before .before .before .before .before .before .before .before .before .before .before .before .before .before .before .before .before .sweep-rows .kept .1 .1 .1 .1 .1 .1 .0 ∙ q .inv .5,
+      c .before .before .before .before .before .before .before .before .before .before .before .before .before .before .before .before .before .before .before .before .before .before .before .before .sweep-rows .kept .1 .1 .1 .1 .1 .1 .1 .0 ∙ q .inv .6,
+      c .before .before .before .before .before .before .before .before .before .before .before .before .before .before .before .before .before .before .before .before .before .before .before .before .sweep-rows .kept .1 .1 .1 .1 .1 .1 .1 .1 .0 ∙ q .inv .7,
     )
 
 pub settle-at-once-spec : {M : Type 1} → statement M

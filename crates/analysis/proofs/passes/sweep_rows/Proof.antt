@@ -26,7 +26,9 @@ abbrev μ-loop : tie.MeasureT-loop
 μ-loop words bounds₀ before₀ processors method count taken₀ pending₀ room₀ moved₀ seen₀ row₀ bounds before taken pending room moved seen row = count - row
 
 loop-holds : tie.Need-loop-holds Inv-loop μ-loop
-loop-holds c = (omega (arith, c .before .before .before .before .before .before .pre .0 .one-each, c .before .before .before .before .before .before .pre .1), sweep-start _ _ _, c .before .before .before .before .before .before .pre .5, c .before .before .before .before .before .before .pre .6, c .before .before .before .before .before .before .pre .7, c .before .before .before .before .before .before .pre .8)
+loop-holds c =
+    let p = c .before .before .before .before .before .before in
+    (omega (arith, p .pre .0 .one-each, p .pre .1), sweep-start _ _ _, p .pre .5, p .pre .6, p .pre .7, p .pre .8)
 
 answer-quickly-in-requires : tie.Need-answer-quickly-in-requires Inv-loop μ-loop
 answer-quickly-in-requires c κs =
@@ -51,7 +53,9 @@ bound-or-requires : tie.Need-bound-or-requires Inv-loop μ-loop
 bound-or-requires c κs = search needs
 
 with-mark-requires : tie.Need-with-mark-requires Inv-loop μ-loop
-with-mark-requires c κs = (omega (arith, c .before .before .before .before .before .before .before .before .before .before .before .before .before .before .before .before .before .before .before .before .before .pre .0 .rows .at-most, c .before .before .before .before .before .before .before .before .before .before .before .before .before .before .before .before .before .before .before .before .before .pre .1), c .before .before .before .before .before .before .before .before .before .before .before .before .before .before .loop .inv .1 .small)
+with-mark-requires c κs =
+    let p = c .before .before .before .before .before .before .before .before .before .before .before .before .before .before .before .before .before .before .before .before .before in
+    (omega (arith, p .pre .0 .rows .at-most, p .pre .1), c .before .before .before .before .before .before .before .before .before .before .before .before .before .before .loop .inv .1 .small)
 
 cast-old : tie.Need-cast-old Inv-loop μ-loop
 cast-old c = search needs
@@ -108,7 +112,9 @@ loop-again c =
     )
 
 same-length : tie.Need-same-length Inv-loop μ-loop
-same-length c = c .before .loop .inv .0 ∙ c .before .before .before .before .before .before .before .before .pre .1 ∙ sym (c .before .before .before .before .before .before .before .before .pre .0 .one-each)
+same-length c =
+    let p = c .before .before .before .before .before .before .before .before in
+    c .before .loop .inv .0 ∙ p .pre .1 ∙ sym (p .pre .0 .one-each)
 
 same-length-2 : tie.Need-same-length-2 Inv-loop μ-loop
 same-length-2 c = c .before .loop .inv .5 ∙ sym (c .before .before .before .before .before .before .before .before .pre .8)

@@ -31,7 +31,9 @@ slice-aggregate-answer-quickly-in-3 : tie.Need-slice-aggregate-answer-quickly-in
 slice-aggregate-answer-quickly-in-3 c = sym (front (c .before .before .before .before .before))
 
 answer-quickly-in-requires : tie.Need-answer-quickly-in-requires
-answer-quickly-in-requires c κs = (c .before .before .before .before .before .pre .0, c .before .before .before .before .before .pre .1, c .before .before .before .before .before .pre .2, c .before .before .before .before .before .pre .3, front (c .before .before .before .before .before), front (c .before .before .before .before .before), front (c .before .before .before .before .before), c .before .before .before .before .before .pre .4)
+answer-quickly-in-requires c κs =
+    let p = c .before .before .before .before .before in
+    (p .pre .0, p .pre .1, p .pre .2, p .pre .3, front (c .before .before .before .before .before), front (c .before .before .before .before .before), front (c .before .before .before .before .before), p .pre .4)
 
 returns : tie.Need-returns
 returns c = search needs
