@@ -5,22 +5,16 @@ use mathlib.Core.List.{List}
 use Prim.Native.Nat.{ℕ, _+_, _*_, _-_, _/_, _≤_, _<_, min}
 use native.Mathlib.Nat.{add-zero, div-mul-le-self, div-le-of-le-mul, mul-le-mul-right, mul-add, mul-assoc}
 use native.Mathlib.Omega.{arith}
-use lib.ListN.{getD}
 use Rattle.laws.specs.Sum.{total}
-use Rattle.laws.specs.Places.{over, Places}
 use Rattle.laws.proofs.Sum.{total-mono, total-same}
 use Rattle.laws.proofs.Concave.{Concave, concave-same, concave-self, concave-add, concave-times, concave-min, concave-total, total-times, above-line}
-use Rattle.model.specs.Interference.{work, workOf}
 use Rattle.model.proofs.Rise.{slope-below}
-use Rattle.rows.specs.Words.{rowCount, sheetOf}
-use Rattle.rows.proofs.Checks.{sound-row}
-use Rattle.analysis.specs.Inner.{Ready, termOf, lineOf, Excluded}
-use Rattle.analysis.proofs.Limits.{bound-in-range}
+use Rattle.analysis.specs.Kept.{costAt, periodAt, aheadAt, shareAt, termAt, lineAt, KeptRows, keptSum, Passed}
 
 -- No line is above the cap.
-pub line-within-cap : (words R taken : List ℕ) (x cap i : ℕ) → lineOf (sheetOf words) R taken x cap i ≤ 4_294_967_296 * cap
-unfolding lineOf
-line-within-cap words R taken x cap i = omega arith
+pub line-within-cap : (l : List ℕ) (x cap j : ℕ) → lineAt l x cap j ≤ 4_294_967_296 * cap
+unfolding lineAt
+line-within-cap l x cap j = omega arith
 
 -- A slope is at most one whole.
 pub slope-small : (c t : ℕ) → c ≤ t → c * 4_294_967_296 / t ≤ 4_294_967_296
@@ -38,49 +32,48 @@ later-concave slope time share cap =
     (concave-times 4_294_967_296 (λ d. min share (cap + d))
     (concave-min (λ d. share) (λ d. cap + d) (concave-same share) (concave-add (λ d. cap) (λ d. d) (concave-same cap) concave-self)))
 
-module _ (words R taken : List ℕ) (ready : Ready words R) where
+module _ (l : List ℕ) (left : ℕ) (rows : KeptRows l left) where
   -- A line is below its term.
-  line-below : (i x cap : ℕ) → i < rowCount words
-      → lineOf (sheetOf words) R taken x cap i ≤ 4_294_967_296 * termOf (sheetOf words) R taken x cap i
-  unfolding lineOf termOf workOf work
-  line-below i x cap inside =
-      let s = sheetOf words in
-      let sized = sound-row words (ready .rows) i inside in
+  line-below : (j x cap : ℕ) → j < left → lineAt l x cap j ≤ 4_294_967_296 * termAt l x cap j
+  unfolding lineAt termAt
+  line-below j x cap h =
+      let row = rows .each j h in
       omega (
         arith,
-        slope-below (s .cost i) (s .period i) (x + getD R i 0 - s .cost i) (s .cost i * 4_294_967_296 / s .period i) 4_294_967_296 (omega arith)
-            (omega arith) (div-mul-le-self (s .cost i * 4_294_967_296) (s .period i)),
+        slope-below (costAt l j) (periodAt l j) (x + aheadAt l j) (costAt l j * 4_294_967_296 / periodAt l j) 4_294_967_296 (row .by-period)
+            (omega (arith, row .some-cost, row .by-period)) (div-mul-le-self (costAt l j * 4_294_967_296) (periodAt l j)),
       )
 
-  -- Row i's line, d steps later.
-  laterOf : (x cap i d : ℕ) → ℕ
-  laterOf x cap i =
-      let s = sheetOf words in
-      later (s .cost i * 4_294_967_296 / s .period i) (x + getD R i 0 - s .cost i) (getD taken i 0) cap
+  -- Row j's line, d steps later.
+  laterOf : (x cap j d : ℕ) → ℕ
+  laterOf x cap j = later (costAt l j * 4_294_967_296 / periodAt l j) (x + aheadAt l j) (shareAt l j) cap
 
-  line-later : (x cap i d : ℕ) → i < rowCount words → lineOf (sheetOf words) R taken (x + d) (cap + d) i ≡ laterOf x cap i d
-  unfolding lineOf laterOf later
-  line-later x cap i d inside =
-      let s = sheetOf words in
-      let range = bound-in-range words R ready i inside in
-      let time : x + d + getD R i 0 - s .cost i ≡ x + getD R i 0 - s .cost i + d = omega (arith, range .0) in
+  line-later : (x cap j d : ℕ) → lineAt l (x + d) (cap + d) j ≡ laterOf x cap j d
+  unfolding lineAt laterOf later
+  line-later x cap j d =
+      let time : x + d + aheadAt l j ≡ x + aheadAt l j + d = omega arith in
       rw time
 
   -- What the lines exclude at both ends they exclude between them.
-  pub chord-excludes : (pending : List ℕ) (left settled m x cap far : ℕ) → Places pending left (rowCount words)
-      → 4_294_967_296 * (m * cap) ≤ 4_294_967_296 * settled + total (over (lineOf (sheetOf words) R taken x cap) pending) left
-      → 4_294_967_296 * (m * (cap + far)) ≤ 4_294_967_296 * settled + total (over (lineOf (sheetOf words) R taken (x + far) (cap + far)) pending) left
-      → Excluded (sheetOf words) R taken pending left settled m x cap far
+  pub chord-passes : (settled m own x far : ℕ) → own ≤ x
+      → 4_294_967_296 * (m * (x - own + 1)) ≤ 4_294_967_296 * settled + total (lineAt l x (x - own + 1)) left
+      → 4_294_967_296 * (m * (x - own + 1 + far)) ≤ 4_294_967_296 * settled + total (lineAt l (x + far) (x - own + 1 + far)) left
+      → Passed l left settled m own x (x + far)
   unfolding laterOf
-  chord-excludes pending left settled m x cap far places start end d inside =
-      let s = sheetOf words in
-      let moved : (e : ℕ) → total (over (lineOf s R taken (x + e) (cap + e)) pending) left ≡ total (λ i. laterOf x cap (getD pending i 0) e) left =
-      λ e. total-same _ _ left (λ i h. line-later x cap _ e (places .inside i h)) in
-      let first : total (over (lineOf s R taken x cap) pending) left ≡ total (λ i. laterOf x cap (getD pending i 0) 0) left = rw (add-zero x, add-zero cap) at (moved 0) in
-      let above = above-line (λ e. 4_294_967_296 * settled + total (λ i. laterOf x cap (getD pending i 0) e) left)
-      (concave-add (λ e. 4_294_967_296 * settled) (λ e. total (λ i. laterOf x cap (getD pending i 0) e) left) (concave-same (4_294_967_296 * settled))
-      (concave-total (λ i e. laterOf x cap (getD pending i 0) e) left (λ i h. later-concave _ _ _ cap)))
-      (4_294_967_296 * (m * cap)) (4_294_967_296 * m) far d (omega (arith, first)) (omega (arith, moved far, mul-add m cap far, mul-assoc 4_294_967_296 m far)) inside in
-      let below = total-mono (over (lineOf s R taken (x + d) (cap + d)) pending) (λ i. 4_294_967_296 * termOf s R taken (x + d) (cap + d) (getD pending i 0)) left
-      (λ i h. line-below _ (x + d) (cap + d) (places .inside i h)) in
-      omega (arith, above, moved d, below, total-times 4_294_967_296 (over (termOf s R taken (x + d) (cap + d)) pending) left, mul-add m cap d, mul-assoc 4_294_967_296 m d)
+  chord-passes settled m own x far from start end z low high =
+      let cap = x - own + 1 in
+      let d = z - x in
+      let there : x + d ≡ z = omega arith in
+      let so-late : cap + d ≡ z - own + 1 = omega arith in
+      let moved : (e : ℕ) → total (lineAt l (x + e) (cap + e)) left ≡ total (λ i. laterOf x cap i e) left =
+      λ e. total-same _ _ left (λ i h. line-later x cap i e) in
+      let first : total (lineAt l x cap) left ≡ total (λ i. laterOf x cap i 0) left = rw (add-zero x, add-zero cap) at (moved 0) in
+      let above = above-line (λ e. 4_294_967_296 * settled + total (λ i. laterOf x cap i e) left)
+      (concave-add (λ e. 4_294_967_296 * settled) (λ e. total (λ i. laterOf x cap i e) left) (concave-same (4_294_967_296 * settled))
+      (concave-total (λ i e. laterOf x cap i e) left (λ i h. later-concave _ _ _ cap)))
+      (4_294_967_296 * (m * cap)) (4_294_967_296 * m) far d (omega (arith, first)) (omega (arith, moved far, mul-add m cap far, mul-assoc 4_294_967_296 m far)) (omega arith) in
+      let below = total-mono (lineAt l (x + d) (cap + d)) (λ i. 4_294_967_296 * termAt l (x + d) (cap + d) i) left
+      (λ i h. line-below i (x + d) (cap + d) h) in
+      let all : m * (cap + d) ≤ keptSum l left settled (x + d) (cap + d) =
+      omega (arith, above, moved d, below, total-times 4_294_967_296 (termAt l (x + d) (cap + d)) left, mul-add m cap d, mul-assoc 4_294_967_296 m d) in
+      rw (there, so-late) at all

@@ -1,26 +1,26 @@
 -- Why a jump skips no solution: each term rises one a step to its room, so the sum is not below a concave function of the steps.
-use mathlib.Core.Path.{_≡_, refl, ap}
+use mathlib.Core.Path.{_≡_, ap}
 use mathlib.Core.List.{List, _++_}
+use mathlib.Core.Logic.{⊎-elim}
 use Prim.Native.Nat.{ℕ, _+_, _*_, _-_, _/_, _≤_, _<_, min}
-use native.Mathlib.Nat.{le-trans, le-min, le-div-iff-mul-le, div-lt-iff-lt-mul, mul-comm}
+use native.Mathlib.Nat.{le-trans, le-min, le-div-iff-mul-le, div-lt-iff-lt-mul, mul-comm, eq-or-lt-of-le}
 use native.Mathlib.Decide.{ℕ-discrete}
 use native.Mathlib.Omega.{arith}
 use borrow.Author.Tests.{eq-eqb, ne-eqb}
 use lib.ListN.{length, getD, drop}
 use Rattle.laws.specs.Sum.{total}
 use Rattle.laws.specs.Fill.{listed}
-use Rattle.laws.specs.Places.{over, Places}
 use Rattle.laws.proofs.Choice.{pick-yes, pick-no}
 use Rattle.laws.proofs.Sum.{total-mono, total-same}
 use Rattle.laws.proofs.Fill.{listed-front}
 use Rattle.laws.proofs.Concave.{none-skipped}
-use Rattle.model.specs.Interference.{carried, work, workOf, rtaRight}
+use Rattle.laws.proofs.Climb.{Climbed, climbed-stretch}
+use Rattle.model.specs.Sheet.{Sheet}
+use Rattle.model.specs.Interference.{carried, rtaRight}
+use Rattle.model.proofs.Interference.{rtaRight-rises}
 use Rattle.model.proofs.Rise.{carried-within, carried-rises, carried-full}
-use Rattle.rows.specs.Words.{rowCount, sheetOf}
-use Rattle.rows.proofs.Checks.{sound-row}
-use Rattle.analysis.specs.Inner.{Ready, Prepared, termOf, reach, roomOf, Rooms, Jumped, pendingSum, PendingRows, Excluded, Onward}
-use Rattle.analysis.proofs.Limits.{bound-in-range}
-use Rattle.analysis.proofs.Shares.{prepared-small, right-from-terms}
+use Rattle.analysis.specs.Inner.{reach, Rooms, Jumped}
+use Rattle.analysis.specs.Kept.{costAt, periodAt, aheadAt, shareAt, termBy, termAt, roomAt, KeptRows, keptSum, Met, Passed}
 
 -- What holds in both cases holds of what a term comes to for certain.
 pub by-period : (P : ℕ → Type 0) (c t whole share : ℕ) → (c ≡ t → P share) → P (min (whole + c) share) → P (reach c t whole share)
@@ -53,104 +53,88 @@ term-up a top work later share cap d by-work by-cap by-top shared certain =
     le-min (le-trans (omega arith) certain) (le-min (omega arith) (omega arith))
 
 -- One row's term, its room and its later term, over plain numbers.
-one-rises : (c t r share x cap d : ℕ) → 1 ≤ t → c ≤ r
-    → let term = min (work c t r x) (min share cap) in
-    term + min d (reach c t ((x + r - c) / t * c) share - term) ≤ min (work c t r (x + d)) (min share (cap + d))
-unfolding work
-one-rises c t r share x cap d some-period bound =
-    let y = x + r - c in
-    let later : x + d + r - c ≡ y + d = omega arith in
+pub one-rises : (c t a s x cap d : ℕ) → 1 ≤ t
+    → termBy c t a s x cap + min d (reach c t ((x + a) / t * c) s - termBy c t a s x cap) ≤ termBy c t a s (x + d) (cap + d)
+one-rises c t a s x cap d some-period =
+    let y = x + a in
+    let later : x + d + a ≡ y + d = omega arith in
     rw later
-    (term-up (min (carried c t y) (min share cap)) (reach c t (y / t * c) share) (carried c t y) (carried c t (y + d)) share cap d
-    (omega arith) (omega arith) (reach-above c t y share _ (omega arith) (omega arith)) (reach-within c t (y / t * c) share)
-    (reach-certain c t y share d some-period))
+    (term-up (min (carried c t y) (min s cap)) (reach c t (y / t * c) s) (carried c t y) (carried c t (y + d)) s cap d
+    (omega arith) (omega arith) (reach-above c t y s _ (omega arith) (omega arith)) (reach-within c t (y / t * c) s)
+    (reach-certain c t y s d some-period))
 
--- The same of a row of the sheet.
-pub term-rises : (words R taken : List ℕ) → Ready words R → (i x cap d : ℕ) → i < rowCount words
-    → termOf (sheetOf words) R taken x cap i + min d (roomOf (sheetOf words) R taken x cap i) ≤ termOf (sheetOf words) R taken (x + d) (cap + d) i
-unfolding termOf roomOf workOf
-term-rises words R taken ready i x cap d inside =
-    let s = sheetOf words in
-    let sized = sound-row words (ready .rows) i inside in
-    one-rises (s .cost i) (s .period i) (getD R i 0) (getD taken i 0) x cap d (omega arith) (bound-in-range words R ready i inside .0)
+module _ (l : List ℕ) (left : ℕ) (rows : KeptRows l left) where
+  -- The same of a row of the list.
+  term-rises : (j x cap d : ℕ) → j < left → termAt l x cap j + min d (roomAt l x cap j) ≤ termAt l (x + d) (cap + d) j
+  unfolding termAt roomAt
+  term-rises j x cap d h =
+      let row = rows .each j h in
+      one-rises (costAt l j) (periodAt l j) (aheadAt l j) (shareAt l j) x cap d (omega (arith, row .some-cost, row .by-period))
 
--- A room is within the share.
-pub room-within : (words R taken : List ℕ) (x cap i : ℕ) → roomOf (sheetOf words) R taken x cap i ≤ getD taken i 0
-unfolding roomOf
-room-within words R taken x cap i =
-    let s = sheetOf words in
-    omega (
-      arith,
-      reach-within (s .cost i) (s .period i) ((x + getD R i 0 - s .cost i) / s .period i * s .cost i) (getD taken i 0),
-    )
+  -- A term is within the cap and the share, and a room within the share.
+  pub term-small : (j x cap : ℕ) → j < left → termAt l x cap j ≤ 1_000_000
+  unfolding termAt
+  term-small j x cap h = omega (arith, rows .each j h .small-share)
 
-module _ (words R taken : List ℕ) (row count m : ℕ) (prepared : Prepared words R taken row count m) where
+  pub room-small : (j x cap : ℕ) → j < left → roomAt l x cap j ≤ 1_000_000
+  unfolding roomAt
+  room-small j x cap h = omega (arith, rows .each j h .small-share, reach-within (costAt l j) (periodAt l j) ((x + aheadAt l j) / periodAt l j * costAt l j) (shareAt l j))
+
   -- The rooms that were filled in are rooms.
-  pub rooms-filled : (pending room before : List ℕ) (left x cap : ℕ) → Places pending left count → left ≤ length room
-      → room ≡ listed (over (roomOf (sheetOf words) R taken x cap) pending) left ++ drop left before → Rooms room left
-  rooms-filled pending room before left x cap places there filled =
+  pub rooms-filled : (room before : List ℕ) (x cap : ℕ) → left ≤ length room → room ≡ listed (roomAt l x cap) left ++ drop left before → Rooms room left
+  rooms-filled room before x cap there filled =
       record {
         there = there;
-        few = omega (arith, places .few, prepared .counted, prepared .ready .rows .at-most);
-        small = λ i h.
-            rw (listed-front (over (roomOf (sheetOf words) R taken x cap) pending) left i room (drop left before) filled h)
-            (le-trans (room-within words R taken x cap _) (prepared-small words R taken row count m prepared _ (places .inside i h)));
+        few = rows .few;
+        small = λ j h. rw (listed-front (roomAt l x cap) left j room (drop left before) filled h) (room-small j x cap h);
       }
 
-  -- A jump over the rooms excludes all that it passes.
-  pub jump-excludes : (pending room before : List ℕ) (left settled x cap gain most far : ℕ) → Places pending left count
-      → room ≡ listed (over (roomOf (sheetOf words) R taken x cap) pending) left ++ drop left before
-      → m * cap ≤ pendingSum (sheetOf words) R taken pending left settled x cap
-      → gain ≡ pendingSum (sheetOf words) R taken pending left settled x cap - m * cap
-      → Jumped room left gain m most far → Excluded (sheetOf words) R taken pending left settled m x cap far
-  jump-excludes pending room before left settled x cap gain most far places filled full is-gain jumped d inside =
-      let terms = over (termOf (sheetOf words) R taken x cap) pending in
-      let rooms = over (roomOf (sheetOf words) R taken x cap) pending in
+  -- A jump over the rooms passes no solution.
+  pub jump-passes : (room before : List ℕ) (settled m own x gain most far : ℕ) → own ≤ x
+      → room ≡ listed (roomAt l x (x - own + 1)) left ++ drop left before
+      → m * (x - own + 1) ≤ keptSum l left settled x (x - own + 1)
+      → gain ≡ keptSum l left settled x (x - own + 1) - m * (x - own + 1)
+      → Jumped room left gain m most far → Passed l left settled m own x (x + far + 1)
+  jump-passes room before settled m own x gain most far from filled full is-gain jumped z low high =
+      let cap = x - own + 1 in
+      let d = z - x in
+      let there : x + d ≡ z = omega arith in
+      let later : cap + d ≡ z - own + 1 = omega arith in
+      let terms = termAt l x cap in
+      let rooms = roomAt l x cap in
       let at : (i : ℕ) → i < left → min far (getD room i 0) ≡ min far (rooms i) =
       λ i h. ap (min far) (listed-front rooms left i room (drop left before) filled h) in
       let same = total-same (λ i. min far (getD room i 0)) (λ i. min far (rooms i)) left at in
-      le-trans
-      (none-skipped m cap far settled left terms rooms full (omega (arith, jumped .gains, same, is-gain)) d inside)
-      (omega (
-        arith,
-        total-mono (λ i. terms i + min d (rooms i)) (over (termOf (sheetOf words) R taken (x + d) (cap + d)) pending) left
-            (λ i h. term-rises words R taken (prepared .ready) _ x cap d (omega (arith, places .inside i h, prepared .counted))),
-      ))
+      let rises = total-mono (λ i. terms i + min d (rooms i)) (termAt l (x + d) (cap + d)) left (λ i h. term-rises i x cap d h) in
+      let fills = none-skipped m cap far settled left terms rooms full (omega (arith, jumped .gains, same, is-gain)) d (omega arith) in
+      let all : m * (cap + d) ≤ keptSum l left settled (x + d) (cap + d) = omega (arith, rises, fills) in
+      rw (there, later) at all
 
-  -- X stands where the terms do not fill m times the cap.
-  pub right-stands : (own sum x : ℕ) → own ≡ (sheetOf words) .cost row → own ≤ x → x ≤ (sheetOf words) .deadline row
-      → sum ≡ total (termOf (sheetOf words) R taken x (x - own + 1)) count → sum < m * (x - own + 1) → rtaRight (sheetOf words) m row R x ≤ x
-  right-stands own sum x is-cost from within is-sum short =
-      let right = right-from-terms words R taken row count m prepared own sum x is-cost within is-sum in
-      let quotient : sum / m < x - own + 1 = div-lt-iff-lt-mul (prepared .some-processor) .1 (rw (mul-comm (x - own + 1) m) short) in
-      omega (arith, right)
+-- What the rows kept add, and the right side of the equation.
+module _ (s : Sheet) (R l : List ℕ) (row left settled x m : ℕ) (met : Met s R l row left settled x) (some-processor : 1 ≤ m) where
+  right-from : (z : ℕ) → x ≤ z → rtaRight s m row R z ≡ s .cost row + keptSum l left settled z (z - s .cost row + 1) / m
+  unfolding rtaRight
+  right-from z from = rw (met .same z from)
 
-  -- And it is below its value where they do.
-  pub right-above : (own x : ℕ) → own ≡ (sheetOf words) .cost row → own ≤ x → x ≤ (sheetOf words) .deadline row
-      → m * (x - own + 1) ≤ total (termOf (sheetOf words) R taken x (x - own + 1)) count → x < rtaRight (sheetOf words) m row R x
-  right-above own x is-cost from within full =
-      let sum = total (termOf (sheetOf words) R taken x (x - own + 1)) count in
-      let right = right-from-terms words R taken row count m prepared own sum x is-cost within refl in
-      let quotient : x - own + 1 ≤ sum / m =
-      le-div-iff-mul-le (prepared .some-processor) .1 (rw (mul-comm (x - own + 1) m) full) in
-      omega (arith, right)
+  -- X stands where they do not fill m times the cap.
+  pub right-stands : (own : ℕ) → own ≡ s .cost row → own ≤ x → keptSum l left settled x (x - own + 1) < m * (x - own + 1) → rtaRight s m row R x ≤ x
+  right-stands own is-cost from short =
+      let cap = x - s .cost row + 1 in
+      let quotient : keptSum l left settled x cap / m < cap = div-lt-iff-lt-mul some-processor .1 (rw (mul-comm cap m) (rw is-cost at short)) in
+      omega (arith, right-from x (omega arith))
 
-  -- Past what is excluded is onward.
-  pub past-excluded : (pending : List ℕ) (left settled own x far : ℕ) → own ≡ (sheetOf words) .cost row → own ≤ x
-      → x + far ≤ (sheetOf words) .deadline row → PendingRows (sheetOf words) R taken pending count left settled x (x - own + 1)
-      → Excluded (sheetOf words) R taken pending left settled m x (x - own + 1) far → Onward (rtaRight (sheetOf words) m row R) x (x + far + 1)
-  past-excluded pending left settled own x far is-cost from within rows excluded =
-      record {
-        from = omega arith;
-        stands = λ same. absurd (omega arith);
-        passed = λ z low high.
-            let there : x + (z - x) ≡ z = omega arith in
-            let cap : x - own + 1 + (z - x) ≡ z - own + 1 = omega arith in
-            let full : m * (x - own + 1 + (z - x)) ≤ total (termOf (sheetOf words) R taken (x + (z - x)) (x - own + 1 + (z - x))) count =
-            rw (← rows .same (z - x)) (excluded (z - x) (omega arith)) in
-            right-above own z is-cost (omega arith) (omega arith) (rw (there, cap) at full);
-      }
+  -- What is passed is below its value.
+  right-above : (next : ℕ) → s .cost row ≤ x → Passed l left settled m (s .cost row) x next → (z : ℕ) → x ≤ z → z < next → z < rtaRight s m row R z
+  right-above next from passed z low high =
+      let cap = z - s .cost row + 1 in
+      let quotient : cap ≤ keptSum l left settled z cap / m = le-div-iff-mul-le some-processor .1 (rw (mul-comm cap m) (passed z low high)) in
+      omega (arith, right-from z low)
 
-  -- Not going on is onward where X stands.
-  pub stays-onward : (x : ℕ) → rtaRight (sheetOf words) m row R x ≤ x → Onward (rtaRight (sheetOf words) m row R) x x
-  stays-onward x stands = record { from = omega arith; stands = λ same. stands; passed = λ z low high. absurd (omega arith) }
+  -- So a climb goes on over what is passed.
+  pub climb-on : (own next : ℕ) → own ≡ s .cost row → own ≤ x → x ≤ next → Passed l left settled m own x next
+      → Climbed (rtaRight s m row R) (s .cost row) x → Climbed (rtaRight s m row R) (s .cost row) next
+  climb-on own next is-cost from further passed climbed =
+      ⊎-elim (λ (same : x ≡ next). rw (← same) climbed)
+      (λ (more : x < next).
+      climbed-stretch _ (rtaRight-rises _ _ _ _) _ _ _ climbed more (right-above next (omega arith) (rw is-cost at passed)))
+      (eq-or-lt-of-le further)

@@ -2,7 +2,7 @@ pub mod Limits
 pub mod Sizes
 pub mod Shares
 pub mod Exclusion
-pub mod Pending
+pub mod Kept
 pub mod Chord
 pub mod ByMethod
 pub mod Question

@@ -2,14 +2,12 @@
 use mathlib.Core.Path.{_≡_}
 use mathlib.Core.Bool.{Bool, true, false}
 use mathlib.Core.List.{List}
-use Prim.Native.Nat.{ℕ, _+_, _-_, _≤_, _<_, min}
-use Prim.Native.Nat.{_*_, _/_}
+use Prim.Native.Nat.{ℕ, zero, suc, _+_, _*_, _-_, _≤_, _<_, min}
 use lib.Dec.{eqb}
 use lib.ListN.{length, getD}
 use Rattle.laws.specs.Choice.{pick}
 use Rattle.laws.specs.Sum.{total, unless}
 use Rattle.laws.specs.Fill.{listed}
-use Rattle.laws.specs.Places.{over, Places}
 use Rattle.model.specs.Sheet.{Sheet}
 use Rattle.model.specs.Interference.{workOf, bclTerm}
 use Rattle.model.specs.Refine.{Ask, marks}
@@ -49,10 +47,15 @@ pub record Prepared (words R taken : List ℕ) (row count processors : ℕ) : Ty
   pub shared : taken ≡ shares (sheetOf words) row R
   pub some-processor : 1 ≤ processors
 
--- The bound that a turn gives, from the answer as the code says it.
+-- The bound of an answer as the code says it, or another number where there is none.
 unfoldable pub boundOr : Found → ℕ → ℕ
 boundOr (At bound) deadline = bound
 boundOr Nowhere deadline = deadline
+
+-- An answer from one number, where 0 stands for none.
+unfoldable pub foundFrom : ℕ → Found
+foundFrom zero = Nowhere
+foundFrom (suc k) = At (suc k)
 
 -- Whether there is an answer.
 unfoldable pub isFound : Found → Bool
@@ -80,11 +83,6 @@ pub record Copied (before after new : List ℕ) (moved : Bool) : Type 0 where
 unfoldable pub reach : ℕ → ℕ → ℕ → ℕ → ℕ
 reach cost period whole share = pick (eqb cost period) share (min (whole + cost) share)
 
--- How far that is above the term at X.
-unfoldable pub roomOf : Sheet → List ℕ → List ℕ → ℕ → ℕ → ℕ → ℕ
-roomOf s R taken x cap i =
-    reach (s .cost i) (s .period i) ((x + getD R i 0 - s .cost i) / s .period i * s .cost i) (getD taken i 0) - termOf s R taken x cap i
-
 -- A jump on which the sum keeps up: what is gained already, and what the rooms let through in so many steps, is no less than m a step.
 pub record Jumped (room : List ℕ) (count gain m most far : ℕ) : Type 0 where
   pub within : far ≤ most
@@ -95,33 +93,3 @@ pub record Rooms (room : List ℕ) (count : ℕ) : Type 0 where
   pub there : count ≤ length room
   pub few : count ≤ 64
   pub small : (i : ℕ) → i < count → getD room i 0 ≤ 1_000_000
-
--- What all other rows add at X: what is settled, and the terms of the pending rows, by their places.
-abbrev pub pendingSum : Sheet → List ℕ → List ℕ → List ℕ → ℕ → ℕ → ℕ → ℕ → ℕ
-pendingSum s R taken pending left settled x cap = settled + total (over (termOf s R taken x cap) pending) left
-
--- The pending rows, which may add more than they add at X. Each other row adds its whole share at X and above, and that is settled.
-pub record PendingRows (s : Sheet) (R taken pending : List ℕ) (count left settled x cap : ℕ) : Type 0 where
-  pub places : Places pending left count
-  pub same : (d : ℕ) → pendingSum s R taken pending left settled (x + d) (cap + d) ≡ total (termOf s R taken (x + d) (cap + d)) count
-
--- Places of the rows whose share is above 1. Whatever gives the others their share, it is settled what they give.
-pub record LargeShares (taken pending : List ℕ) (count left settled : ℕ) : Type 0 where
-  pub places : Places pending left count
-  pub same : (f : ℕ → ℕ) → ((i : ℕ) → i < count → getD taken i 0 ≤ 1 → f i ≡ getD taken i 0) → settled + total (over f pending) left ≡ total f count
-
--- No X from x to x + far solves the equation: at each of them the terms fill m times the cap.
-abbrev pub Excluded : Sheet → List ℕ → List ℕ → List ℕ → ℕ → ℕ → ℕ → ℕ → ℕ → ℕ → Type 0
-Excluded s R taken pending left settled m x cap far = (d : ℕ) → d ≤ far → m * (cap + d) ≤ pendingSum s R taken pending left settled (x + d) (cap + d)
-
--- The next number worth looking at: x itself only where it is not raised, and every number passed is below its value.
-pub record Onward (f : ℕ → ℕ) (x next : ℕ) : Type 0 where
-  pub from : x ≤ next
-  pub stands : next ≡ x → f x ≤ x
-  pub passed : (z : ℕ) → x ≤ z → z < next → z < f z
-
--- What a line below row i's work gives at X: cost / period of the time, within its share and the cap, in parts of 2 ^ 32. The slope is rounded
--- down to such parts.
-unfoldable pub lineOf : Sheet → List ℕ → List ℕ → ℕ → ℕ → ℕ → ℕ
-lineOf s R taken x cap i =
-    min (s .cost i * 4_294_967_296 / s .period i * (x + getD R i 0 - s .cost i)) (4_294_967_296 * min (getD taken i 0) cap)

@@ -1,4 +1,5 @@
 pub mod Question
 pub mod Refinement
 pub mod Inner
+pub mod Kept
 pub mod Ray

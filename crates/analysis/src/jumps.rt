@@ -1,34 +1,39 @@
-// RTA by jumps: climbs as the plain method does, but past every X that the terms at hand exclude.
+// RTA by jumps: climbs as the plain method does, but past every X that the terms at hand exclude. The other rows of a turn stand in a list of
+// their own, by five times 64 words: costs, periods, how far each bound is above the cost, shares, and what a period brings.
+use crate::interference::share_in_window;
 use crate::interference::work_in_time;
-use crate::response::term;
-use numbers::less;
 use numbers::lesser;
-use rows::Found;
 use rows::cost;
 use rows::deadline;
 ghost use mathlib.Core.Path.{_≡_};
-ghost use Prim.Native.Nat.{_+_, _*_, _-_, _≤_, _<_, min};
+ghost use Prim.Native.Nat.{ℕ, _+_, _*_, _-_, _≤_, _<_, min};
 ghost use lib.Dec.{leb};
 ghost use mathlib.Core.List.{_++_};
 ghost use lib.ListN.{length, getD, drop};
 ghost use Rattle.laws.specs.Sum.{total};
 ghost use Rattle.laws.specs.Fill.{listed};
-ghost use Rattle.laws.specs.Places.{over, Places};
-ghost use Rattle.model.specs.Interference.{rtaRight};
 ghost use Rattle.model.specs.Answer.{rtaAnswer};
 ghost use Rattle.rows.specs.Words.{rowCount, sheetOf, foundOf};
-ghost use Rattle.analysis.specs.Inner.{Ready, Prepared, termOf, reach, roomOf, Rooms, Jumped, lineOf, PendingRows, LargeShares, Excluded, Onward};
+ghost use Rattle.analysis.specs.Inner.{Ready, boundOr, reach, Rooms, Jumped};
+ghost use Rattle.analysis.specs.Kept.{KeptRow, KeptRows, putRow, termAt, roomAt, lineAt, keptSum, metTerm, Met, Passed};
 
-// What another row adds at X, and its room: how much more it adds for certain, one a step.
+// What other rows add at X, and their room: how much more they add for certain, one a step each.
 pub(crate) struct Rise {
     pub term: u32,
     pub room: u32,
 }
 
-// How many rows are pending, and what the others add: their whole share.
+// How many rows are kept, and what the others add: their whole share.
 pub(crate) struct Pending {
     pub left: u32,
     pub settled: u32,
+}
+
+// The rows kept and what is settled, with the X to go on from.
+pub(crate) struct Leap {
+    pub left: u32,
+    pub settled: u32,
+    pub x: u32,
 }
 
 // The rooms below a number of steps, added up, and how many are no smaller.
@@ -37,57 +42,81 @@ pub(crate) struct Split {
     pub wide: u32,
 }
 
-// What a term comes to for certain before a new job must come. Where the cost fills the period a job is always there.
-pub(crate) fn certain(own: u32, period: u32, whole: u32, share: u32) -> u32
-    requires { ⌜ (whole ≤ 2_000_000) × (own ≤ 1_000_000) ⌝ }
-    ensures { λ r. ⌜ r ≡ reach own period whole share ⌝ }
+// What a period brings for certain: its cost. Where the cost fills the period a job is always there, and all of the share comes.
+pub(crate) fn rise_of(own: u32, period: u32, share: u32) -> u32
+    ensures comes { λ r. ⌜ ((whole : ℕ) → min (whole + r) share ≡ reach own period whole share) ⌝ }
+    ensures small { λ r. ⌜ r ≤ own + share ⌝ }
 {
-    if own == period {
-        share
-    } else {
-        lesser(whole + own, share)
-    }
+    if own == period { share } else { own }
 }
 
-// What another row adds at X, and its room.
-pub(crate) fn term_and_room(
-    words: &[u32],
-    bounds: &[u32],
-    taken: &[u32],
-    other: u32,
-    x: u32,
-    cap: u32,
-) -> Rise
-    requires { ⌜ Ready (now words) (now bounds) × (other < rowCount (now words)) × (length (now taken) ≡ rowCount (now words)) × (x ≤ 1_000_000) ⌝ }
-    ensures adds { λ r. ⌜ (r .term) ≡ termOf (sheetOf (now (words .entry))) (now (bounds .entry)) (now (taken .entry)) x cap other ⌝ }
-    ensures more { λ r. ⌜ (r .room) ≡ roomOf (sheetOf (now (words .entry))) (now (bounds .entry)) (now (taken .entry)) x cap other ⌝ }
+// Writes a row down at a place of the list.
+pub(crate) fn put_row(
+    others: &mut [u32],
+    place: u32,
+    cost: u32,
+    period: u32,
+    ahead: u32,
+    share: u32,
+    rise: u32,
+)
+    requires { ⌜ (length (now others) ≡ 320) × (place < 64) ⌝ }
+    ensures { λ r. ⌜ now (others .exit) ≡ putRow (now (others .entry)) place cost period ahead share rise ⌝ }
 {
-    let share = taken[other as usize];
-    let at = 3 * (other as usize);
-    let second = at + 2;
-    let own = words[at];
-    let period = words[second];
-    let time = x + bounds[other as usize] - own;
+    let at = place as usize;
+    others[at] = cost;
+    others[at + 64] = period;
+    others[at + 128] = ahead;
+    others[at + 192] = share;
+    others[at + 256] = rise;
+}
+
+// What a row of the list adds at X, and its room.
+pub(crate) fn term_and_room(others: &[u32], place: u32, x: u32, cap: u32) -> Rise
+    requires { ⌜ (length (now others) ≡ 320) × (place < 64) × KeptRow (now others) place × (x ≤ 1_000_000) ⌝ }
+    ensures adds { λ r. ⌜ (r .term) ≡ termAt (now (others .entry)) x cap place ⌝ }
+    ensures more { λ r. ⌜ (r .room) ≡ roomAt (now (others .entry)) x cap place ⌝ }
+{
+    let at = place as usize;
+    let own = others[at];
+    let period = others[at + 64];
+    let time = x + others[at + 128];
+    let share = others[at + 192];
     let term = lesser(work_in_time(own, period, time), lesser(share, cap));
     let whole = time / period * own;
-    let room = certain(own, period, whole, share) - term;
+    let room = lesser(whole + others[at + 256], share) - term;
     Rise {
         term: term,
         room: room,
     }
 }
 
-// The places of the rows whose share is above 1. A share of 0 or 1 is added whole at every X.
-pub(crate) fn first_pending(taken: &[u32], pending: &mut [u32], count: u32) -> Pending
-    requires { ⌜ (length (now taken) ≡ count) × (length (now pending) ≡ count) × (count ≤ 64) ⌝ }
-    ensures { λ r. ⌜ LargeShares (now (taken .entry)) (now (pending .exit)) count (r .left) (r .settled) ⌝ }
+// Takes in the rows of a stretch of places. A share of 0 or 1 is added whole at every X: it is settled at once.
+pub(crate) fn meet(
+    words: &[u32],
+    bounds: &[u32],
+    from: u32,
+    to: u32,
+    window: u32,
+    others: &mut [u32],
+    before: Pending,
+) -> Pending
+    requires { ⌜ Ready (now words) (now bounds) × (from ≤ to) × (to ≤ rowCount (now words)) × (window ≤ 1_000_000) × KeptRows (now others) (before .left) × ((before .settled) + (before .left) * 1_000_000 ≤ from * 1_000_000) ⌝ }
+    ensures rows { λ r. ⌜ KeptRows (now (others .exit)) (r .left) ⌝ }
+    ensures few { λ r. ⌜ (r .settled) + (r .left) * 1_000_000 ≤ to * 1_000_000 ⌝ }
+    ensures sums { λ r. ⌜ ((x cap : ℕ) → 1 ≤ x → 1 ≤ cap → keptSum (now (others .exit)) (r .left) (r .settled) x cap + total (metTerm (sheetOf (now (words .entry))) (now (bounds .entry)) window x cap) from ≡ keptSum (now (others .entry)) (before .left) (before .settled) x cap + total (metTerm (sheetOf (now (words .entry))) (now (bounds .entry)) window x cap) to) ⌝ }
 {
-    let mut settled = 0;
-    let mut left = 0;
-    let mut place = 0;
-    while place < count {
-        let share = taken[place as usize];
-        pending[left as usize] = place;
+    let mut settled = before.settled;
+    let mut left = before.left;
+    let mut place = from;
+    while place < to {
+        let row = 3 * (place as usize);
+        let own = words[row];
+        let period = words[row + 2];
+        let bound = bounds[place as usize];
+        let share = share_in_window(own, words[row + 1], period, bound, window);
+        let rise = rise_of(own, period, share);
+        put_row(others, left, own, period, bound - own, share, rise);
         if 1 < share {
             left += 1;
         } else {
@@ -101,29 +130,47 @@ pub(crate) fn first_pending(taken: &[u32], pending: &mut [u32], count: u32) -> P
     }
 }
 
-// Leaves out the rows that add their whole share at X: they add no more above it. What stays pending moves to the front.
-pub(crate) fn keep_pending(
+// Takes in every other row, which is told by its place.
+pub(crate) fn meet_others(
     words: &[u32],
     bounds: &[u32],
-    taken: &[u32],
-    pending: &mut [u32],
-    rows: Pending,
-    x: u32,
-    cap: u32,
+    row: u32,
+    count: u32,
+    window: u32,
+    others: &mut [u32],
 ) -> Pending
-    requires { ⌜ Ready (now words) (now bounds) × (length (now taken) ≡ rowCount (now words)) × PendingRows (sheetOf (now words)) (now bounds) (now taken) (now pending) (rowCount (now words)) (rows .left) (rows .settled) x cap × (1 ≤ x) × (x ≤ 1_000_000) × (cap ≤ 1_000_000) ⌝ }
-    ensures { λ r. ⌜ PendingRows (sheetOf (now (words .entry))) (now (bounds .entry)) (now (taken .entry)) (now (pending .exit)) (rowCount (now (words .entry))) (r .left) (r .settled) x cap ⌝ }
+    requires { ⌜ Ready (now words) (now bounds) × (row < rowCount (now words)) × (count ≡ rowCount (now words)) × (window ≡ (sheetOf (now words)) .deadline row) × (length (now others) ≡ 320) ⌝ }
+    ensures { λ r. ⌜ Met (sheetOf (now (words .entry))) (now (bounds .entry)) (now (others .exit)) row (r .left) (r .settled) ((sheetOf (now (words .entry))) .cost row) ⌝ }
+{
+    let none = Pending {
+        left: 0,
+        settled: 0,
+    };
+    let ahead = meet(words, bounds, 0, row, window, others, none);
+    meet(words, bounds, row + 1, count, window, others, ahead)
+}
+
+// Leaves out the rows that add their whole share at X: they add no more above it. What is kept moves to the front.
+pub(crate) fn keep_pending(others: &mut [u32], rows: Pending, x: u32, cap: u32) -> Pending
+    requires { ⌜ KeptRows (now others) (rows .left) × ((rows .settled) + (rows .left) * 1_000_000 ≤ 64_000_000) × (x ≤ 1_000_000) ⌝ }
+    ensures rows { λ r. ⌜ KeptRows (now (others .exit)) (r .left) ⌝ }
+    ensures few { λ r. ⌜ ((r .left) ≤ (rows .left)) × ((r .settled) + (r .left) * 1_000_000 ≤ 64_000_000) ⌝ }
+    ensures sums { λ r. ⌜ ((d : ℕ) → keptSum (now (others .exit)) (r .left) (r .settled) (x + d) (cap + d) ≡ keptSum (now (others .entry)) (rows .left) (rows .settled) (x + d) (cap + d)) ⌝ }
 {
     let all = rows.left;
     let mut settled = rows.settled;
     let mut left = 0;
     let mut next = 0;
     while next < all {
-        let place = pending[next as usize];
-        let share = taken[place as usize];
-        let adds = term(words, bounds, taken, place, x, cap);
-        pending[left as usize] = place;
-        if adds < share {
+        let here = term_and_room(others, next, x, cap);
+        let at = next as usize;
+        let own = others[at];
+        let period = others[at + 64];
+        let ahead = others[at + 128];
+        let share = others[at + 192];
+        let rise = others[at + 256];
+        put_row(others, left, own, period, ahead, share, rise);
+        if here.term < share {
             left += 1;
         } else {
             settled += share;
@@ -136,51 +183,27 @@ pub(crate) fn keep_pending(
     }
 }
 
-// Every 16th step the rows that add their whole share are left out.
-pub(crate) fn still_pending(
-    words: &[u32],
-    bounds: &[u32],
-    taken: &[u32],
-    pending: &mut [u32],
-    rows: Pending,
-    x: u32,
-    cap: u32,
-    step: u32,
-) -> Pending
-    requires { ⌜ Ready (now words) (now bounds) × (length (now taken) ≡ rowCount (now words)) × PendingRows (sheetOf (now words)) (now bounds) (now taken) (now pending) (rowCount (now words)) (rows .left) (rows .settled) x cap × (1 ≤ x) × (x ≤ 1_000_000) × (cap ≤ 1_000_000) ⌝ }
-    ensures { λ r. ⌜ PendingRows (sheetOf (now (words .entry))) (now (bounds .entry)) (now (taken .entry)) (now (pending .exit)) (rowCount (now (words .entry))) (r .left) (r .settled) x cap ⌝ }
-{
-    if step % 16 == 0 {
-        keep_pending(words, bounds, taken, pending, rows, x, cap)
-    } else {
-        rows
-    }
-}
-
-// What the pending rows add at X; the room of each is written to the lent words.
-pub(crate) fn fill_rooms(
-    words: &[u32],
-    bounds: &[u32],
-    taken: &[u32],
-    pending: &[u32],
-    left: u32,
-    x: u32,
-    cap: u32,
-    room: &mut [u32],
-) -> u32
-    requires { ⌜ Ready (now words) (now bounds) × (length (now taken) ≡ rowCount (now words)) × Places (now pending) left (rowCount (now words)) × (x ≤ 1_000_000) × (cap ≤ 1_000_000) × (left ≤ length (now room)) ⌝ }
-    ensures summed { λ r. ⌜ r ≡ total (over (termOf (sheetOf (now (words .entry))) (now (bounds .entry)) (now (taken .entry)) x cap) (now (pending .entry))) left ⌝ }
-    ensures filled { λ r. ⌜ now (room .exit) ≡ listed (over (roomOf (sheetOf (now (words .entry))) (now (bounds .entry)) (now (taken .entry)) x cap) (now (pending .entry))) left ++ drop left (now (room .entry)) ⌝ }
+// What the rows kept add at X, and the sum of their rooms; the room of each is written to the lent words.
+pub(crate) fn fill_rooms(others: &[u32], left: u32, x: u32, cap: u32, room: &mut [u32]) -> Rise
+    requires { ⌜ KeptRows (now others) left × (x ≤ 1_000_000) × (left ≤ length (now room)) ⌝ }
+    ensures summed { λ r. ⌜ (r .term) ≡ total (termAt (now (others .entry)) x cap) left ⌝ }
+    ensures filled { λ r. ⌜ now (room .exit) ≡ listed (roomAt (now (others .entry)) x cap) left ++ drop left (now (room .entry)) ⌝ }
+    ensures small { λ r. ⌜ (r .room) ≤ 64_000_000 ⌝ }
 {
     let mut sum = 0;
+    let mut rooms = 0;
     let mut next = 0;
     while next < left {
-        let here = term_and_room(words, bounds, taken, pending[next as usize], x, cap);
+        let here = term_and_room(others, next, x, cap);
         sum += here.term;
+        rooms += here.room;
         room[next as usize] = here.room;
         next += 1;
     }
-    sum
+    Rise {
+        term: sum,
+        room: rooms,
+    }
 }
 
 // 1 where a room lets one through at every step, else 0.
@@ -211,12 +234,20 @@ pub(crate) fn split_rooms(room: &[u32], count: u32, far: u32) -> Split
     }
 }
 
-// How many steps are excluded at once: the longest jump that Newton's rule meets, from the most downward, on which the sum keeps up.
-pub(crate) fn jump(room: &[u32], count: u32, gain: u32, processors: u32, most: u32) -> u32
-    requires { ⌜ Rooms (now room) count × (gain ≤ 64_000_000) × (processors ≤ 64) × (most ≤ 1_000_000) ⌝ }
+// How many steps are excluded at once: the longest jump that Newton's rule meets, from what all rooms together pay for downward, on which the
+// sum keeps up.
+pub(crate) fn jump(
+    room: &[u32],
+    count: u32,
+    gain: u32,
+    rooms: u32,
+    processors: u32,
+    most: u32,
+) -> u32
+    requires { ⌜ Rooms (now room) count × (gain ≤ 64_000_000) × (rooms ≤ 64_000_000) × (1 ≤ processors) × (processors ≤ 64) × (most ≤ 1_000_000) ⌝ }
     ensures { λ r. ⌜ Jumped (now (room .entry)) count gain processors most r ⌝ }
 {
-    let mut far = most;
+    let mut far = lesser(most, (gain + rooms) / processors);
     loop {
         let split = split_rooms(room, count, far);
         let wide = split.wide;
@@ -229,43 +260,26 @@ pub(crate) fn jump(room: &[u32], count: u32, gain: u32, processors: u32, most: u
 }
 
 // What the line below a row's work gives at X: its cost / period of the time, within its share and the cap, in parts of 2^32.
-pub(crate) fn line(
-    words: &[u32],
-    bounds: &[u32],
-    taken: &[u32],
-    other: u32,
-    x: u32,
-    cap: u32,
-) -> u64
-    requires { ⌜ Ready (now words) (now bounds) × (other < rowCount (now words)) × (length (now taken) ≡ rowCount (now words)) × (x ≤ 1_000_000) ⌝ }
-    ensures { λ r. ⌜ r ≡ lineOf (sheetOf (now (words .entry))) (now (bounds .entry)) (now (taken .entry)) x cap other ⌝ }
+pub(crate) fn line(others: &[u32], place: u32, x: u32, cap: u32) -> u64
+    requires { ⌜ (length (now others) ≡ 320) × (place < 64) × KeptRow (now others) place × (x ≤ 1_000_000) ⌝ }
+    ensures { λ r. ⌜ r ≡ lineAt (now (others .entry)) x cap place ⌝ }
 {
-    let most = 4_294_967_296 * (lesser(taken[other as usize], cap) as u64);
-    let at = 3 * (other as usize);
-    let second = at + 2;
-    let own = words[at];
-    let slope = (own as u64) * 4_294_967_296 / (words[second] as u64);
-    let level = slope * ((x + bounds[other as usize] - own) as u64);
+    let at = place as usize;
+    let most = 4_294_967_296 * (lesser(others[at + 192], cap) as u64);
+    let slope = (others[at] as u64) * 4_294_967_296 / (others[at + 64] as u64);
+    let level = slope * ((x + others[at + 128]) as u64);
     if level < most { level } else { most }
 }
 
-// What the lines of the pending rows give at X.
-pub(crate) fn line_sum(
-    words: &[u32],
-    bounds: &[u32],
-    taken: &[u32],
-    pending: &[u32],
-    left: u32,
-    x: u32,
-    cap: u32,
-) -> u64
-    requires { ⌜ Ready (now words) (now bounds) × (length (now taken) ≡ rowCount (now words)) × Places (now pending) left (rowCount (now words)) × (x ≤ 1_000_000) × (cap ≤ 1_000_000) ⌝ }
-    ensures { λ r. ⌜ r ≡ total (over (lineOf (sheetOf (now (words .entry))) (now (bounds .entry)) (now (taken .entry)) x cap) (now (pending .entry))) left ⌝ }
+// What the lines of the rows kept give at X.
+pub(crate) fn line_sum(others: &[u32], left: u32, x: u32, cap: u32) -> u64
+    requires { ⌜ KeptRows (now others) left × (x ≤ 1_000_000) × (cap ≤ 1_000_000) ⌝ }
+    ensures { λ r. ⌜ r ≡ total (lineAt (now (others .entry)) x cap) left ⌝ }
 {
     let mut sum = 0;
     let mut next = 0;
     while next < left {
-        sum += line(words, bounds, taken, pending[next as usize], x, cap);
+        sum += line(others, next, x, cap);
         next += 1;
     }
     sum
@@ -273,149 +287,136 @@ pub(crate) fn line_sum(
 
 // Whether the lines, with what is settled, show that X does not solve the equation.
 pub(crate) fn line_excludes(
-    words: &[u32],
-    bounds: &[u32],
-    taken: &[u32],
-    pending: &[u32],
+    others: &[u32],
     rows: Pending,
     processors: u32,
     x: u32,
     cap: u32,
 ) -> bool
-    requires { ⌜ Ready (now words) (now bounds) × (length (now taken) ≡ rowCount (now words)) × Places (now pending) (rows .left) (rowCount (now words)) × ((rows .settled) ≤ 64_000_000) × (processors ≤ 64) × (x ≤ 1_000_000) × (cap ≤ 1_000_000) ⌝ }
-    ensures { λ r. ⌜ r ≡ leb (4_294_967_296 * (processors * cap)) (4_294_967_296 * (rows .settled) + total (over (lineOf (sheetOf (now (words .entry))) (now (bounds .entry)) (now (taken .entry)) x cap) (now (pending .entry))) (rows .left)) ⌝ }
+    requires { ⌜ KeptRows (now others) (rows .left) × ((rows .settled) ≤ 64_000_000) × (processors ≤ 64) × (x ≤ 1_000_000) × (cap ≤ 1_000_000) ⌝ }
+    ensures { λ r. ⌜ r ≡ leb (4_294_967_296 * (processors * cap)) (4_294_967_296 * (rows .settled) + total (lineAt (now (others .entry)) x cap) (rows .left)) ⌝ }
 {
-    let sum = line_sum(words, bounds, taken, pending, rows.left, x, cap);
+    let sum = line_sum(others, rows.left, x, cap);
     4_294_967_296 * ((processors * cap) as u64) <= 4_294_967_296 * (rows.settled as u64) + sum
 }
 
-// A jump over many periods: the farthest, halving from the most down to 64, at whose two ends the lines exclude; else the near one.
-pub(crate) fn far_jump(
-    words: &[u32],
-    bounds: &[u32],
-    taken: &[u32],
-    pending: &[u32],
+// The farthest X, halving the way to the deadline down to 64, with which and with the present one the lines exclude all between; else the
+// present one.
+pub(crate) fn far_from(
+    others: &[u32],
     rows: Pending,
-    processors: u32,
-    x: u32,
-    cap: u32,
-    near: u32,
-    most: u32,
-) -> u32
-    requires { ⌜ Ready (now words) (now bounds) × (length (now taken) ≡ rowCount (now words)) × Places (now pending) (rows .left) (rowCount (now words)) × ((rows .settled) ≤ 64_000_000) × (processors ≤ 64) × (x + most ≤ 1_000_000) × (cap + most ≤ 1_000_000) × (near ≤ most) × Excluded (sheetOf (now words)) (now bounds) (now taken) (now pending) (rows .left) (rows .settled) processors x cap near ⌝ }
-    ensures { λ r. ⌜ (r ≤ most) × Excluded (sheetOf (now (words .entry))) (now (bounds .entry)) (now (taken .entry)) (now (pending .entry)) (rows .left) (rows .settled) processors x cap r ⌝ }
-{
-    if !line_excludes(words, bounds, taken, pending, rows, processors, x, cap) {
-        return near;
-    }
-    let least = near + less(64, near);
-    let mut far = most;
-    while least < far {
-        if line_excludes(
-            words,
-            bounds,
-            taken,
-            pending,
-            rows,
-            processors,
-            x + far,
-            cap + far,
-        ) {
-            return far;
-        }
-        far = far / 2;
-    }
-    near
-}
-
-// The next X worth looking at: X itself if it solves the equation, else the first that is not excluded, by a far jump where that is asked for.
-pub(crate) fn onward(
-    words: &[u32],
-    bounds: &[u32],
-    taken: &[u32],
-    pending: &[u32],
-    rows: Pending,
-    row: u32,
     own: u32,
     top: u32,
     processors: u32,
     x: u32,
-    try_far: bool,
-    room: &mut [u32],
 ) -> u32
-    requires { ⌜ Prepared (now words) (now bounds) (now taken) row (rowCount (now words)) processors × PendingRows (sheetOf (now words)) (now bounds) (now taken) (now pending) (rowCount (now words)) (rows .left) (rows .settled) x (x - own + 1) × (own ≡ (sheetOf (now words)) .cost row) × (top ≡ (sheetOf (now words)) .deadline row) × (own ≤ x) × (x ≤ top) × (length (now room) ≡ rowCount (now words)) × (processors ≤ 64) ⌝ }
-    ensures { λ r. ⌜ Onward (rtaRight (sheetOf (now (words .entry))) processors row (now (bounds .entry))) x r ⌝ }
+    requires { ⌜ KeptRows (now others) (rows .left) × ((rows .settled) ≤ 64_000_000) × (1 ≤ own) × (own ≤ x) × (x ≤ top) × (top ≤ 1_000_000) × (processors ≤ 64) ⌝ }
+    ensures { λ r. ⌜ (x ≤ r) × (r ≤ top) × Passed (now (others .entry)) (rows .left) (rows .settled) processors own x r ⌝ }
 {
     let cap = x - own + 1;
-    let sum = rows.settled + fill_rooms(words, bounds, taken, pending, rows.left, x, cap, room);
+    if !line_excludes(others, rows, processors, x, cap) {
+        return x;
+    }
+    let mut far = top - x;
+    while 64 < far {
+        if line_excludes(others, rows, processors, x + far, cap + far) {
+            return x + far;
+        }
+        far = far / 2;
+    }
+    x
+}
+
+// Every 16th step the rows that add their whole share are left out, and X goes as far as the lines exclude.
+pub(crate) fn leap_far(
+    others: &mut [u32],
+    rows: Pending,
+    own: u32,
+    top: u32,
+    processors: u32,
+    x: u32,
+    step: u32,
+) -> Leap
+    requires { ⌜ KeptRows (now others) (rows .left) × ((rows .settled) + (rows .left) * 1_000_000 ≤ 64_000_000) × (1 ≤ own) × (own ≤ x) × (x ≤ top) × (top ≤ 1_000_000) × (processors ≤ 64) ⌝ }
+    ensures rows { λ r. ⌜ KeptRows (now (others .exit)) (r .left) ⌝ }
+    ensures few { λ r. ⌜ ((r .left) ≤ (rows .left)) × ((r .settled) + (r .left) * 1_000_000 ≤ 64_000_000) ⌝ }
+    ensures sums { λ r. ⌜ ((d : ℕ) → keptSum (now (others .exit)) (r .left) (r .settled) (x + d) (x - own + 1 + d) ≡ keptSum (now (others .entry)) (rows .left) (rows .settled) (x + d) (x - own + 1 + d)) ⌝ }
+    ensures goes { λ r. ⌜ (x ≤ r .x) × ((r .x) ≤ top) × Passed (now (others .exit)) (r .left) (r .settled) processors own x (r .x) ⌝ }
+{
+    if step % 16 == 0 {
+        let kept = keep_pending(others, rows, x, x - own + 1);
+        let far = far_from(others, kept, own, top, processors, x);
+        Leap {
+            left: kept.left,
+            settled: kept.settled,
+            x: far,
+        }
+    } else {
+        Leap {
+            left: rows.left,
+            settled: rows.settled,
+            x: x,
+        }
+    }
+}
+
+// The next X worth looking at: X itself if it solves the equation, else the first that is not excluded.
+pub(crate) fn onward(
+    others: &[u32],
+    rows: Pending,
+    own: u32,
+    top: u32,
+    processors: u32,
+    x: u32,
+    room: &mut [u32],
+) -> u32
+    requires { ⌜ KeptRows (now others) (rows .left) × ((rows .settled) + (rows .left) * 1_000_000 ≤ 64_000_000) × (1 ≤ own) × (own ≤ x) × (x ≤ top) × (top ≤ 1_000_000) × (1 ≤ processors) × (processors ≤ 64) × ((rows .left) ≤ length (now room)) ⌝ }
+    ensures goes { λ r. ⌜ (x ≤ r) × Passed (now (others .entry)) (rows .left) (rows .settled) processors own x r ⌝ }
+    ensures stands { λ r. ⌜ (r ≡ x → keptSum (now (others .entry)) (rows .left) (rows .settled) x (x - own + 1) < processors * (x - own + 1)) ⌝ }
+{
+    let cap = x - own + 1;
+    let here = fill_rooms(others, rows.left, x, cap, room);
+    let sum = rows.settled + here.term;
     let supply = processors * cap;
     if sum < supply {
         return x;
     }
-    let most = top - x;
     let gain = sum - supply;
-    let near = jump(room, rows.left, gain, processors, most);
-    if !try_far {
-        return x + near + 1;
-    }
-    let far = far_jump(
-        words,
-        bounds,
-        taken,
-        pending,
-        rows,
-        processors,
-        x,
-        cap,
-        near,
-        most,
-    );
-    x + far + 1
+    x + jump(room, rows.left, gain, here.room, processors, top - x) + 1
 }
 
-// RTA: climbs from the cost past what is excluded to the least X that is its own right side, and gives up above the deadline. Every 16th step
-// leaves rows out that add no more, and tries to jump far.
+// RTA: climbs from the cost past what is excluded to the least X that is its own right side; 0 where there is none up to the deadline.
 pub(crate) fn rta_quickly(
     words: &[u32],
     bounds: &[u32],
-    taken: &[u32],
     row: u32,
     count: u32,
     processors: u32,
-    pending: &mut [u32],
+    others: &mut [u32],
     room: &mut [u32],
-) -> Found
-    requires { ⌜ Prepared (now words) (now bounds) (now taken) row count processors × (length (now pending) ≡ count) × (length (now room) ≡ count) × (processors ≤ 64) ⌝ }
-    ensures { λ r. ⌜ r ≡ foundOf (rtaAnswer (sheetOf (now (words .entry))) processors row (now (bounds .entry))) ⌝ }
+) -> u32
+    requires { ⌜ Ready (now words) (now bounds) × (row < rowCount (now words)) × (count ≡ rowCount (now words)) × (1 ≤ processors) × (processors ≤ 64) × (length (now others) ≡ 320) × (length (now room) ≡ count) ⌝ }
+    ensures { λ r. ⌜ r ≡ boundOr (foundOf (rtaAnswer (sheetOf (now (words .entry))) processors row (now (bounds .entry)))) 0 ⌝ }
 {
     let own = cost(words, row);
     let top = deadline(words, row);
-    let mut rows = first_pending(taken, pending, count);
+    let mut rows = meet_others(words, bounds, row, count, top, others);
     let mut x = own;
     let mut step = 0u32;
     loop {
         step += 1;
-        rows = still_pending(words, bounds, taken, pending, rows, x, x - own + 1, step);
-        let try_far = step % 16 == 0;
-        let next = onward(
-            words,
-            bounds,
-            taken,
-            pending,
-            rows,
-            row,
-            own,
-            top,
-            processors,
-            x,
-            try_far,
-            room,
-        );
-        if next == x {
-            return Found::At(x);
+        let kept = leap_far(others, rows, own, top, processors, x, step);
+        let from = kept.x;
+        rows = Pending {
+            left: kept.left,
+            settled: kept.settled,
+        };
+        let next = onward(others, rows, own, top, processors, from, room);
+        if next == from {
+            return from;
         }
         if top < next {
-            return Found::Nowhere;
+            return 0;
         }
         x = next;
     }

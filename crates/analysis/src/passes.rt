@@ -1,8 +1,10 @@
 // Passes over all rows, and the two engines that repeat them until one changes nothing.
 use crate::ray::hasten;
 use crate::ray::note_drops;
-use crate::response::answer_quickly_in;
 use crate::response::answer_row;
+use crate::response::bound_or;
+use crate::response::bound_quickly;
+use crate::response::found_of;
 use rows::Found;
 use rows::deadline;
 ghost use mathlib.Core.Path.{_≡_};
@@ -14,17 +16,7 @@ ghost use Rattle.model.proofs.Refine.{Held};
 ghost use Rattle.rows.specs.Words.{rowCount, sheetOf};
 ghost use Rattle.rows.specs.Inner.{SoundRows};
 ghost use Rattle.analysis.specs.Refinement.{askOf};
-ghost use Rattle.analysis.specs.Inner.{Ready, boundOr, isFound, AfterPass, Copied};
-
-// The bound that a turn gives: the answer, or the deadline where there is none.
-pub(crate) fn bound_or(found: Found, deadline: u32) -> u32
-    ensures { λ r. ⌜ r ≡ boundOr found deadline ⌝ }
-{
-    match found {
-        Found::At(bound) => bound,
-        Found::Nowhere => deadline,
-    }
-}
+ghost use Rattle.analysis.specs.Inner.{Ready, isFound, AfterPass, Copied};
 
 // The marks with the next row's bit set where it has an answer.
 pub(crate) fn with_mark(seen: u64, found: Found, row: u32) -> u64
@@ -76,28 +68,26 @@ pub(crate) fn sweep_rows(
     processors: u32,
     method: u32,
     count: u32,
-    taken: &mut [u32],
-    pending: &mut [u32],
+    others: &mut [u32],
     room: &mut [u32],
 ) -> Outcome
-    requires { ⌜ Ready (now words) (now bounds) × (count ≡ rowCount (now words)) × (1 ≤ processors) × Held (sheetOf (now words)) (askOf (now words) processors method) (now bounds) × (processors ≤ 64) × (length (now taken) ≡ count) × (length (now pending) ≡ count) × (length (now room) ≡ count) × (length (now before) ≡ count) ⌝ }
+    requires { ⌜ Ready (now words) (now bounds) × (count ≡ rowCount (now words)) × (1 ≤ processors) × Held (sheetOf (now words)) (askOf (now words) processors method) (now bounds) × (processors ≤ 64) × (length (now others) ≡ 320) × (length (now room) ≡ count) × (length (now before) ≡ count) ⌝ }
     ensures { λ r. ⌜ AfterPass (sheetOf (now (words .entry))) (askOf (now (words .entry)) processors method) (sweep (sheetOf (now (words .entry))) (askOf (now (words .entry)) processors method) (rowCount (now (words .entry)))) (now (bounds .entry)) (now (bounds .exit)) (r .moved) (r .seen) ⌝ }
 {
     let mut moved = false;
     let mut seen = 0;
     let mut row = 0;
     while row < count {
-        let found = answer_quickly_in(
+        let found = found_of(bound_quickly(
             words,
             bounds,
             row,
             count,
             processors,
             method,
-            taken,
-            pending,
+            others,
             room,
-        );
+        ));
         let bound = bound_or(found, deadline(words, row));
         seen = with_mark(seen, found, row);
         let old = bounds[row as usize];
@@ -194,14 +184,13 @@ pub(crate) fn settle_at_once(
     bounds: &mut [u32],
     before: &mut [u32],
     drops: &mut [u32],
-    taken: &mut [u32],
-    pending: &mut [u32],
+    others: &mut [u32],
     room: &mut [u32],
     processors: u32,
     method: u32,
     count: u32,
 ) -> u64
-    requires { ⌜ Ready (now words) (now bounds) × (count ≡ rowCount (now words)) × (1 ≤ processors) × Held (sheetOf (now words)) (askOf (now words) processors method) (now bounds) × (length (now before) ≡ count) × (length (now drops) ≡ count) × (processors ≤ 64) × (length (now taken) ≡ count) × (length (now pending) ≡ count) × (length (now room) ≡ count) ⌝ }
+    requires { ⌜ Ready (now words) (now bounds) × (count ≡ rowCount (now words)) × (1 ≤ processors) × Held (sheetOf (now words)) (askOf (now words) processors method) (now bounds) × (length (now before) ≡ count) × (length (now drops) ≡ count) × (processors ≤ 64) × (length (now others) ≡ 320) × (length (now room) ≡ count) ⌝ }
     ensures seen { λ r. ⌜ r ≡ marks (sheetOf (now (words .entry))) (askOf (now (words .entry)) processors method) (atOnce (sheetOf (now (words .entry))) (askOf (now (words .entry)) processors method)) ⌝ }
     ensures settled { λ r. ⌜ now (bounds .exit) ≡ atOnce (sheetOf (now (words .entry))) (askOf (now (words .entry)) processors method) ⌝ }
 {
@@ -214,8 +203,7 @@ pub(crate) fn settle_at_once(
             processors,
             method,
             count,
-            taken,
-            pending,
+            others,
             room,
         );
         let moved = outcome.moved;
@@ -261,8 +249,7 @@ pub(crate) fn run_at_once(
     fill_deadlines(words, bounds, count);
     let mut before = [0u32; 64];
     let mut drops = [0u32; 64];
-    let mut taken = [0u32; 64];
-    let mut pending = [0u32; 64];
+    let mut others = [0u32; 320];
     let mut room = [0u32; 64];
     let end = count as usize;
     settle_at_once(
@@ -270,8 +257,7 @@ pub(crate) fn run_at_once(
         bounds,
         &mut before[..end],
         &mut drops[..end],
-        &mut taken[..end],
-        &mut pending[..end],
+        &mut others,
         &mut room[..end],
         processors,
         method,

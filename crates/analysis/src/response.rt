@@ -13,7 +13,7 @@ ghost use Rattle.laws.specs.Sum.{total};
 ghost use Rattle.model.specs.Interference.{rtaRight};
 ghost use Rattle.model.specs.Answer.{bclAnswer, rtaAnswer, methodOf, answer};
 ghost use Rattle.rows.specs.Words.{rowCount, sheetOf, foundOf};
-ghost use Rattle.analysis.specs.Inner.{Ready, Prepared, termOf};
+ghost use Rattle.analysis.specs.Inner.{Ready, Prepared, termOf, boundOr, foundFrom};
 
 // What another row adds at X. Where the share or the cap is 0 or 1 it is the least, and no division is needed.
 pub(crate) fn term(
@@ -181,26 +181,46 @@ pub(crate) fn answer_row(
     )
 }
 
-// One row's answer by either method, RTA's by jumps, with space for what each other row takes, for the places of pending rows and for rooms.
-pub(crate) fn answer_quickly_in(
+// The bound of an answer, or another number where there is none.
+pub(crate) fn bound_or(found: Found, other: u32) -> u32
+    ensures { λ r. ⌜ r ≡ boundOr found other ⌝ }
+{
+    match found {
+        Found::At(bound) => bound,
+        Found::Nowhere => other,
+    }
+}
+
+// An answer from one number, where 0 stands for none.
+pub(crate) fn found_of(bound: u32) -> Found
+    ensures { λ r. ⌜ r ≡ foundFrom bound ⌝ }
+{
+    if bound == 0 {
+        Found::Nowhere
+    } else {
+        Found::At(bound)
+    }
+}
+
+// One row's bound by either method, RTA's by jumps, and 0 where there is none, with space for the other rows and for what each of them takes.
+pub(crate) fn bound_quickly(
     words: &[u32],
     bounds: &[u32],
     row: u32,
     count: u32,
     processors: u32,
     method: u32,
-    taken: &mut [u32],
-    pending: &mut [u32],
+    others: &mut [u32],
     room: &mut [u32],
-) -> Found
-    requires { ⌜ Ready (now words) (now bounds) × (row < rowCount (now words)) × (count ≡ rowCount (now words)) × (1 ≤ processors) × (length (now taken) ≡ count) × (length (now pending) ≡ count) × (length (now room) ≡ count) × (processors ≤ 64) ⌝ }
-    ensures { λ r. ⌜ r ≡ foundOf (answer (methodOf method) (sheetOf (now (words .entry))) processors row (now (bounds .entry))) ⌝ }
+) -> u32
+    requires { ⌜ Ready (now words) (now bounds) × (row < rowCount (now words)) × (count ≡ rowCount (now words)) × (1 ≤ processors) × (processors ≤ 64) × (length (now others) ≡ 320) × (length (now room) ≡ count) ⌝ }
+    ensures { λ r. ⌜ r ≡ boundOr (foundOf (answer (methodOf method) (sheetOf (now (words .entry))) processors row (now (bounds .entry)))) 0 ⌝ }
 {
-    fill_shares(words, bounds, row, count, taken);
     if method == 0 {
-        bcl_row(words, bounds, taken, row, count, processors)
+        fill_shares(words, bounds, row, count, room);
+        bound_or(bcl_row(words, bounds, room, row, count, processors), 0)
     } else {
-        rta_quickly(words, bounds, taken, row, count, processors, pending, room)
+        rta_quickly(words, bounds, row, count, processors, others, room)
     }
 }
 
@@ -216,19 +236,17 @@ pub(crate) fn answer_quickly(
     requires { ⌜ Ready (now words) (now bounds) × (row < rowCount (now words)) × (count ≡ rowCount (now words)) × (1 ≤ processors) × (processors ≤ 64) ⌝ }
     ensures { λ r. ⌜ r ≡ foundOf (answer (methodOf method) (sheetOf (now (words .entry))) processors row (now (bounds .entry))) ⌝ }
 {
-    let mut taken = [0u32; 64];
-    let mut pending = [0u32; 64];
+    let mut others = [0u32; 320];
     let mut room = [0u32; 64];
     let end = count as usize;
-    answer_quickly_in(
+    found_of(bound_quickly(
         words,
         bounds,
         row,
         count,
         processors,
         method,
-        &mut taken[..end],
-        &mut pending[..end],
+        &mut others,
         &mut room[..end],
-    )
+    ))
 }

@@ -5,7 +5,6 @@ pub mod Concave
 pub mod Search
 pub mod Climb
 pub mod Fill
-pub mod Places
 pub mod Cuts
 pub mod Bits
 pub mod Line

@@ -87,6 +87,17 @@ pub unless-other : (k : ℕ) (f : ℕ → ℕ) (i : ℕ) → (i ≡ k → ⊥) �
 unfolding unless
 unless-other k f i other = pick-no _ _ _ (ne-eqb i k other)
 
+-- The sum over every other place lacks what f gives at the place left out.
+pub total-unless : (f : ℕ → ℕ) (k n : ℕ) → k < n → total (unless k f) n + f k ≡ total f n
+unfolding total
+total-unless f k zero inside = absurd (omega arith)
+total-unless f k (suc n) inside =
+    ⊎-elim (λ (last : k ≡ n).
+    rw last
+    (omega (arith, unless-here n f, total-same (unless n f) f n (λ i h. unless-other n f i (λ same. absurd (omega arith))))))
+    (λ (before : k < n). omega (arith, total-unless f k n before, unless-other k f n (λ same. absurd (omega arith))))
+    (eq-or-lt-of-le (le-of-suc-le-suc inside))
+
 -- A sum over every other place is no larger where no term is.
 pub unless-mono : (k : ℕ) (f g : ℕ → ℕ) (i : ℕ) → f i ≤ g i → unless k f i ≤ unless k g i
 unfolding unless

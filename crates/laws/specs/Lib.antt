@@ -3,6 +3,5 @@ pub mod Sum
 pub mod Search
 pub mod Climb
 pub mod Fill
-pub mod Places
 pub mod Bits
 pub mod Line

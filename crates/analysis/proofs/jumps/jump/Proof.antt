@@ -8,19 +8,29 @@ use Rattle.analysis.proofs.jumps.jump.Statement.{statement}
 use Rattle.analysis.proofs.jumps.jump.Tie as tie
 
 abbrev Inv-loop : tie.InvT-loop
-Inv-loop room count gain processors most far₀ far = far ≤ most
+Inv-loop room count gain rooms processors most far₀ far =
+    far ≤ most
 
 abbrev μ-loop : tie.MeasureT-loop
-μ-loop room count gain processors most far₀ far = far
+μ-loop room count gain rooms processors most far₀ far = far
+
+add-lesser : tie.Need-add-lesser Inv-loop μ-loop
+add-lesser c = omega (arith, c .before .pre .1, c .before .pre .2)
+
+div-lesser : tie.Need-div-lesser Inv-loop μ-loop
+div-lesser c = omega (arith, c .before .pre .3)
+
+lesser-requires : tie.Need-lesser-requires Inv-loop μ-loop
+lesser-requires c κs = search needs
 
 loop-holds : tie.Need-loop-holds Inv-loop μ-loop
-loop-holds c = omega arith
+loop-holds c = omega (arith, c .lesser .ensures)
 
 split-rooms-requires : tie.Need-split-rooms-requires Inv-loop μ-loop
 split-rooms-requires c κs = search needs
 
 add-sure : tie.Need-add-sure Inv-loop μ-loop
-add-sure c = omega (arith, c .before .before .before .before .pre .1, c .before .split-rooms .ensures .1 .0)
+add-sure c = omega (arith, c .before .before .before .before .before .pre .1, c .before .split-rooms .ensures .1 .0)
 
 -- Products of up to 64 and up to a million.
 product-small : (a b : ℕ) → a ≤ 64 → b ≤ 1_000_000 → a * b ≤ 64_000_000
@@ -28,10 +38,10 @@ product-small a b few small = mul-le-mul few small
 
 -- How far is within a million, as the most is.
 far-small : (c : tie.After-split-rooms Inv-loop μ-loop) → c .before .loop .far ≤ 1_000_000
-far-small c = omega (arith, c .before .before .before .pre .3)
+far-small c = omega (arith, c .before .before .before .before .pre .5, c .before .loop .inv)
 
 mul-if1 : tie.Need-mul-if1 Inv-loop μ-loop
-mul-if1 c = omega (arith, product-small (c .before .before .before .before .args .processors) (c .before .before .loop .far) (c .before .before .before .before .pre .2) (far-small (c .before)))
+mul-if1 c = omega (arith, product-small (c .before .before .before .before .before .args .processors) (c .before .before .loop .far) (c .before .before .before .before .before .pre .4) (far-small (c .before)))
 
 mul-if1-2 : tie.Need-mul-if1-2 Inv-loop μ-loop
 mul-if1-2 c =
@@ -43,7 +53,7 @@ add-if1 c =
     let split = c .before .split-rooms in
     omega (
       arith,
-      c .before .before .before .before .pre .1,
+      c .before .before .before .before .before .pre .1,
       split .ensures .1 .0,
       product-small (split .result .wide) (c .before .before .loop .far) (split .ensures .1 .1) (far-small (c .before)),
     )
@@ -52,11 +62,11 @@ returns : tie.Need-returns Inv-loop μ-loop
 returns c = record { within = c .before .before .before .loop .inv; gains = omega (arith, c .if1 .taken, c .before .before .split-rooms .ensures .0) }
 
 -- What comes next is less far.
-falls : (c : tie.Else1 Inv-loop μ-loop) → let p = c .before .before .before .before .before in
+falls : (c : tie.Else1 Inv-loop μ-loop) → let p = c .before .before .before .before .before .before in
     let split = c .before .before .split-rooms .result in
     (split .wide < p .args .processors) × ((p .args .gain + split .full) / (p .args .processors - split .wide) < c .before .before .before .loop .far)
 falls c =
-    let p = c .before .before .before .before .before in
+    let p = c .before .before .before .before .before .before in
     let split = c .before .before .split-rooms .result in
     newton-falls (p .args .gain + split .full) (split .wide) (c .before .before .before .loop .far) (p .args .processors) (omega (arith, c .if1 .left))
 
@@ -78,6 +88,9 @@ jump-spec =
     (tie.spec
     Inv-loop
     μ-loop
+    add-lesser
+    div-lesser
+    lesser-requires
     loop-holds
     split-rooms-requires
     add-sure

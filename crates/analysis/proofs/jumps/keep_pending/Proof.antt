@@ -1,103 +1,123 @@
--- `keep_pending` sifts the places: one whose row adds its whole share is left out, and what it adds is settled for good.
+-- `keep_pending` passes row by row: one that adds its whole share is settled for good, any other moves to the front.
 use borrow.Author.Needs.{needs}
 use native.Mathlib.Omega.{arith}
-use mathlib.Core.Path.{_≡_, refl, _∙_}
+use mathlib.Core.Path.{_≡_, refl, _∙_, sym}
 use mathlib.Core.Logic.{⊎-elim}
 use Prim.Native.Nat.{ℕ, _+_, _*_, _-_, _≤_, _<_}
-use native.Mathlib.Nat.{mul-le-mul}
-use lib.ListN.{length, getD, set, length-set}
+use lib.ListN.{length}
 use denote.Ref.{now}
-use Rattle.laws.proofs.Places.{Staying, Sifted, none-staying, one-stays, one-leaves, rest-kept, sift-stays, sift-leaves}
 use Rattle.laws.specs.Sum.{total}
-use Rattle.rows.specs.Words.{rowCount, sheetOf}
-use Rattle.analysis.specs.Inner.{termOf}
-use Rattle.analysis.proofs.Pending.{Sifting, whole-share, pending-sifted, sifted-within}
+use Rattle.laws.proofs.Sum.{total-step}
+use Rattle.analysis.specs.Kept.{costAt, periodAt, aheadAt, shareAt, riseAt, putRow, termBy, termAt, KeptRow, KeptRows, keptSum}
+use Rattle.analysis.proofs.Kept.{Holds, put-length, put-other, holds-term, holds-kept, holds-through, holds-self, rows-same, rows-more, sum-more, sum-settled, whole-share}
 use Rattle.analysis.proofs.jumps.keep_pending.Statement.{statement}
 use Rattle.analysis.proofs.jumps.keep_pending.Tie as tie
 
 abbrev Inv-loop : tie.InvT-loop
-Inv-loop words bounds taken pending₀ x cap all settled₀ left₀ next₀ pending settled left next =
+Inv-loop others₀ x cap all settled₀ left₀ next₀ others settled left next =
     (next ≤ all)
-    × (length pending ≡ length pending₀)
-    × ((j : ℕ) → next ≤ j → getD pending j 0 ≡ getD pending₀ j 0)
-    × Staying pending (rowCount words) next left
-    × ((d : ℕ) → Sifted (termOf (sheetOf words) bounds taken (x + d) (cap + d)) (λ j. getD pending₀ j 0) pending settled₀ next left settled)
+    × (left ≤ next)
+    × KeptRows others left
+    × (settled + (left + (all - next)) * 1_000_000 ≤ 64_000_000)
+    × ((j : ℕ) → next ≤ j → j < 64 → Holds others j (costAt others₀ j) (periodAt others₀ j) (aheadAt others₀ j) (shareAt others₀ j) (riseAt others₀ j))
+    × ((d : ℕ) → keptSum others left settled (x + d) (cap + d) ≡ settled₀ + total (termAt others₀ (x + d) (cap + d)) next)
 
 abbrev μ-loop : tie.MeasureT-loop
-μ-loop words bounds taken pending₀ x cap all settled₀ left₀ next₀ pending settled left next = all - next
+μ-loop others₀ x cap all settled₀ left₀ next₀ others settled left next = all - next
 
 loop-holds : tie.Need-loop-holds Inv-loop μ-loop
 unfolding total
-loop-holds c = (omega arith, refl, λ j h. refl, none-staying _ _, λ d. refl)
+loop-holds c =
+    let p = c .before in (
+      omega arith,
+      omega arith,
+      record { sized = p .pre .0 .sized; few = omega arith; each = λ j h. absurd (omega arith) },
+      omega (arith, p .pre .1),
+      λ j from place. holds-self _ j,
+      λ d. refl,
+    )
 
-cast-place : tie.Need-cast-place Inv-loop μ-loop
-cast-place c = search needs
-
-mul-place : tie.Need-mul-place Inv-loop μ-loop
-mul-place c = search needs
-
-slice-read-place : tie.Need-slice-read-place Inv-loop μ-loop
-slice-read-place c = omega (arith, c .before .before .before .before .before .before .before .pre .2 .places .there, c .before .before .loop .inv .1)
-
--- What is read is the place of a row.
-place-inside : (c : tie.In-loop Inv-loop μ-loop) → let q = c .before .loop in
-    getD (q .pending) (q .next) 0 < rowCount (now (c .before .before .before .before .before .before .args .words))
-place-inside c =
+-- The row that is passed stands as it stood.
+stands : (c : tie.In-loop Inv-loop μ-loop) → let l = now (c .before .before .before .args .others) in
     let q = c .before .loop in
-    rw (q .inv .2 (q .next) (omega arith)) (c .before .before .before .before .before .before .pre .2 .places .inside (q .next) (omega arith))
+    Holds (q .others) (q .next) (costAt l (q .next)) (periodAt l (q .next)) (aheadAt l (q .next)) (shareAt l (q .next)) (riseAt l (q .next))
+stands c = c .before .loop .inv .4 (c .before .loop .next) (omega arith) (omega (arith, c .before .before .before .pre .0 .few))
 
-cast-share : tie.Need-cast-share Inv-loop μ-loop
-cast-share c = omega (arith, place-inside (c .before), c .before .before .before .before .before .before .before .pre .0 .rows .at-most)
+kept : (c : tie.In-loop Inv-loop μ-loop) → KeptRow (c .before .loop .others) (c .before .loop .next)
+kept c = holds-kept _ _ _ _ _ _ _ (stands c) (c .before .before .before .pre .0 .each (c .before .loop .next) (omega arith))
+
+-- What it adds is one more of what is passed.
+passed : (c : tie.In-loop Inv-loop μ-loop) (d : ℕ) → let p = c .before .before .before in
+    let q = c .before .loop in
+    keptSum (q .others) (q .left) (q .settled) (p .args .x + d) (p .args .cap + d) + termBy (costAt (q .others) (q .next)) (periodAt (q .others) (q .next)) (aheadAt (q .others) (q .next)) (shareAt (q .others) (q .next)) (p .args .x + d) (p .args .cap + d)
+    ≡ p .args .rows .settled + total (termAt (now (p .args .others)) (p .args .x + d) (p .args .cap + d)) (q .next + 1)
+unfolding termAt
+passed c d =
+    let p = c .before .before .before in
+    let q = c .before .loop in
+    omega (
+      arith,
+      q .inv .5 d,
+      total-step (termAt (now (p .args .others)) (p .args .x + d) (p .args .cap + d)) (q .next),
+      holds-term _ _ _ _ _ _ _ (stands c) (p .args .x + d) (p .args .cap + d),
+    )
+
+term-and-room-requires : tie.Need-term-and-room-requires Inv-loop μ-loop
+term-and-room-requires c κs = let q = c .before .before .loop in (q .inv .2 .sized, omega (arith, c .before .before .before .before .pre .0 .few), kept (c .before), c .before .before .before .before .pre .2)
+
+cast-at : tie.Need-cast-at Inv-loop μ-loop
+cast-at c = search needs
+
+mul-own : tie.Need-mul-own Inv-loop μ-loop
+mul-own c = search needs
+
+slice-read-own : tie.Need-slice-read-own Inv-loop μ-loop
+slice-read-own c = omega (arith, c .before .before .before .before .loop .inv .2 .sized, c .before .before .before .before .before .before .pre .0 .few)
+
+add-period : tie.Need-add-period Inv-loop μ-loop
+add-period c = search needs
+
+mul-period : tie.Need-mul-period Inv-loop μ-loop
+mul-period c = search needs
+
+slice-read-period : tie.Need-slice-read-period Inv-loop μ-loop
+slice-read-period c = omega (arith, c .before .before .before .before .before .loop .inv .2 .sized, c .before .before .before .before .before .before .before .pre .0 .few)
+
+add-ahead : tie.Need-add-ahead Inv-loop μ-loop
+add-ahead c = search needs
+
+mul-ahead : tie.Need-mul-ahead Inv-loop μ-loop
+mul-ahead c = search needs
+
+slice-read-ahead : tie.Need-slice-read-ahead Inv-loop μ-loop
+slice-read-ahead c = omega (arith, c .before .before .before .before .before .before .loop .inv .2 .sized, c .before .before .before .before .before .before .before .before .pre .0 .few)
+
+add-share : tie.Need-add-share Inv-loop μ-loop
+add-share c = search needs
 
 mul-share : tie.Need-mul-share Inv-loop μ-loop
-mul-share c = omega (arith, place-inside (c .before), c .before .before .before .before .before .before .before .pre .0 .rows .at-most)
+mul-share c = search needs
 
-shared-slice-read-share : tie.Need-shared-slice-read-share Inv-loop μ-loop
-shared-slice-read-share c = omega (arith, place-inside (c .before .before), c .before .before .before .before .before .before .before .before .pre .1)
+slice-read-share : tie.Need-slice-read-share Inv-loop μ-loop
+slice-read-share c = omega (arith, c .before .before .before .before .before .before .before .loop .inv .2 .sized, c .before .before .before .before .before .before .before .before .before .pre .0 .few)
 
-term-requires : tie.Need-term-requires Inv-loop μ-loop
-term-requires c κs =
-    let p = c .before .before .before .before .before .before .before .before in
-    (p .pre .0, place-inside (c .before .before), p .pre .1, p .pre .3, p .pre .4)
+add-rise : tie.Need-add-rise Inv-loop μ-loop
+add-rise c = search needs
 
-cast-pending : tie.Need-cast-pending Inv-loop μ-loop
-cast-pending c = search needs
+mul-rise : tie.Need-mul-rise Inv-loop μ-loop
+mul-rise c = search needs
 
-mul-pending : tie.Need-mul-pending Inv-loop μ-loop
-mul-pending c = search needs
+slice-read-rise : tie.Need-slice-read-rise Inv-loop μ-loop
+slice-read-rise c = omega (arith, c .before .before .before .before .before .before .before .before .loop .inv .2 .sized, c .before .before .before .before .before .before .before .before .before .before .pre .0 .few)
 
--- What is written goes where a place was.
-there : (c : tie.After-term Inv-loop μ-loop) → let q = c .before .before .before .before .loop in
-    q .left < length (q .pending)
-there c =
-    let q = c .before .before .before .before .loop in
-    omega (arith, c .before .before .before .before .before .before .before .before .before .pre .2 .places .there, q .inv .1, q .inv .3 .fewer)
-
-slice-write-pending : tie.Need-slice-write-pending Inv-loop μ-loop
-slice-write-pending c = there c
+put-row-requires : tie.Need-put-row-requires Inv-loop μ-loop
+put-row-requires c κs = (c .before .before .before .before .before .before .before .before .before .loop .inv .2 .sized, omega (arith, c .before .before .before .before .before .before .before .before .before .loop .inv .1, c .before .before .before .before .before .before .before .before .before .before .before .pre .0 .few))
 
 add-left : tie.Need-add-left Inv-loop μ-loop
-add-left c =
-    let p = c .before .before .before .before .before .before .before .before .before .before in
-    omega (arith, c .before .before .before .before .before .loop .inv .3 .fewer, p .pre .2 .places .few, p .pre .0 .rows .at-most)
-
--- A row that adds its whole share is settled.
-leaves : (c : tie.After-term Inv-loop μ-loop) → let p = c .before .before .before .before .before .before .before .before .before in
-    let q = c .before .before .before .before .loop in
-    getD (now (p .args .taken)) (getD (q .pending) (q .next) 0) 0 ≤ c .term .result
-    → Sifting (now (p .args .words)) (now (p .args .bounds)) (now (p .args .taken)) (now (p .args .pending)) (rowCount (now (p .args .words))) (p .args .rows .left) (p .args .rows .settled) (p .args .x) (p .args .cap) (p .pre .2) (set (q .pending) (q .left) (getD (q .pending) (q .next) 0)) (q .next + 1) (q .left) (q .settled + getD (now (p .args .taken)) (getD (q .pending) (q .next) 0) 0)
-leaves c whole d =
-    let p = c .before .before .before .before .before .before .before .before .before in
-    let q = c .before .before .before .before .loop in
-    sift-leaves (q .pending) (q .next) (q .left) _ (termOf (sheetOf (now (p .args .words))) (now (p .args .bounds)) (now (p .args .taken)) (p .args .x + d) (p .args .cap + d)) (λ j. getD (now (p .args .pending)) j 0) _ (q .settled) (q .inv .4 d) (q .inv .2 (q .next) (omega arith)) _
-    (whole-share (now (p .args .words)) (now (p .args .bounds)) (now (p .args .taken)) (p .pre .0) _ (p .args .x) (p .args .cap) (place-inside (c .before .before .before)) (rw (← c .term .ensures) whole) d)
+add-left c = omega (arith, c .before .before .before .before .before .before .before .before .before .before .before .before .before .before .loop .inv .1, c .before .before .before .before .before .before .before .before .before .before .before .before .before .before .before .before .pre .0 .few)
 
 add-settled : tie.Need-add-settled Inv-loop μ-loop
-add-settled c =
-    let q = c .before .before .before .before .before .loop in
-    let p = c .before .before .before .before .before .before .before .before .before .before in
-    let small : rowCount (now (p .args .words)) * p .args .cap ≤ 64_000_000 = mul-le-mul (p .pre .0 .rows .at-most) (p .pre .5) in
-    omega (arith, small, sifted-within _ _ _ _ _ _ _ _ _ (p .pre .2) (set (q .pending) (q .left) (getD (q .pending) (q .next) 0)) (q .next + 1) (q .left) _ (omega arith) (leaves (c .before) (omega (arith, c .if1 .left))))
+add-settled c = omega (arith, c .before .before .before .before .before .before .before .before .before .before .before .before .before .before .loop .inv .3, kept (c .before .before .before .before .before .before .before .before .before .before .before .before .before) .small-share)
 
 add-next : tie.Need-add-next Inv-loop μ-loop
 add-next c = search needs
@@ -105,30 +125,47 @@ add-next c = search needs
 loop-less : tie.Need-loop-less Inv-loop μ-loop
 loop-less c = search needs
 
+-- One that adds its whole share adds it ever after.
+settles : (c : tie.After-term-and-room Inv-loop μ-loop) → let p = c .before .before .before .before .before in
+    let q = c .before .before .before .loop in
+    shareAt (q .others) (q .next) ≤ c .term-and-room .result .term
+    → (d : ℕ) → termBy (costAt (q .others) (q .next)) (periodAt (q .others) (q .next)) (aheadAt (q .others) (q .next)) (shareAt (q .others) (q .next)) (p .args .x + d) (p .args .cap + d) ≡ shareAt (q .others) (q .next)
+unfolding termAt
+settles c whole d =
+    let p = c .before .before .before .before .before in
+    let row = kept (c .before .before) in
+    whole-share _ _ _ _ (p .args .x) (p .args .cap) d (omega (arith, row .some-cost, row .by-period)) (rw (← c .term-and-room .ensures .0) whole)
+
 loop-again : tie.Need-loop-again Inv-loop μ-loop
 loop-again c =
-    let p = c .before .before .before .before .before .before .before .before .before .before in
-    let q = c .before .before .before .before .before .loop in
-    let place = getD (q .pending) (q .next) 0 in (
+    let q = c .before .before .before .before .before .before .before .before .before .before .before .before .before .before .loop in
+    let put = c .before .before .before .before .put-row .ensures in
+    let place : q .left < 64 = omega (arith, q .inv .1, c .before .before .before .before .before .before .before .before .before .before .before .before .before .before .before .before .pre .0 .few) in
+    let row = kept (c .before .before .before .before .before .before .before .before .before .before .before .before .before) in (
       omega arith,
-      length-set (q .pending) (q .left) place ∙ q .inv .1,
-      rest-kept (q .pending) (q .next) (q .left) place (now (p .args .pending)) (q .inv .3 .fewer) (q .inv .2),
-      ⊎-elim (λ w. rw (w .2) (one-stays (q .pending) (q .next) (q .left) place _ (q .inv .3) (there (c .before)) (place-inside (c .before .before .before .before))))
-          (λ w. rw (w .2) (one-leaves (q .pending) (q .next) (q .left) place _ (q .inv .3))) (c .if1 .came),
+      ⊎-elim (λ w. omega (arith, w .2, q .inv .1)) (λ w. omega (arith, w .2, q .inv .1)) (c .if1 .came),
+      ⊎-elim (λ w. rw (w .2, put) (rows-more (q .others) (q .left) _ _ _ _ _ (q .inv .2) place row))
+          (λ w. rw (w .2, put) (rows-same (q .others) (q .left) _ _ _ _ _ (q .inv .2) place)) (c .if1 .came),
+      ⊎-elim (λ w. omega (arith, w .1, w .2, q .inv .3)) (λ w. omega (arith, w .1, w .2, q .inv .3, row .small-share)) (c .if1 .came),
+      λ j from below.
+          rw put
+          (holds-through _ (q .others) j _ _ _ _ _ (put-other (q .others) (q .left) _ _ _ _ _ j below place (λ here. omega (arith, q .inv .1))) (q .inv .4 j (omega arith) below)),
       λ d.
-          ⊎-elim (λ w. rw (w .1, w .2) (sift-stays (q .pending) (q .next) (q .left) place (termOf (sheetOf (now (p .args .words))) (now (p .args .bounds)) (now (p .args .taken)) (p .args .x + d) (p .args .cap + d)) (λ j. getD (now (p .args .pending)) j 0) _ (q .settled) (q .inv .4 d) (q .inv .2 (q .next) (omega arith)) (there (c .before))))
-          (λ w. rw (w .1, w .2) (leaves (c .before) (omega (arith, w .0 .left)) d)) (c .if1 .came),
+          ⊎-elim (λ w. rw (w .1, w .2, put) (sum-more (q .others) (q .left) _ _ _ _ _ (q .inv .2) place (q .settled) _ _ ∙ passed (c .before .before .before .before .before .before .before .before .before .before .before .before .before) d))
+          (λ w. rw (w .1, w .2, put)
+          (sum-settled (q .others) (q .left) _ _ _ _ _ (q .inv .2) place (q .settled) _ _ (settles (c .before .before .before .before .before .before .before .before .before .before .before) (w .0 .left) d) ∙ passed (c .before .before .before .before .before .before .before .before .before .before .before .before .before) d))
+          (c .if1 .came),
     )
 
 same-length : tie.Need-same-length Inv-loop μ-loop
-same-length c = search needs
+same-length c = c .before .loop .inv .2 .sized ∙ sym (c .before .before .before .pre .0 .sized)
 
 returns : tie.Need-returns Inv-loop μ-loop
 returns c =
-    let p = c .before .before .before .before .before .before in
+    let p = c .before .before .before in
     let q = c .before .loop in
-    let done : q .next ≡ p .args .rows .left = omega (arith, q .inv .0) in
-    pending-sifted _ _ _ _ _ _ _ _ _ (p .pre .2) _ _ _ (q .inv .1) (rw done at (q .inv .3)) (λ d. rw done at (q .inv .4 d))
+    let done : q .next ≡ p .args .rows .left = omega arith in
+    (q .inv .2, ((omega (arith, q .inv .1), omega (arith, q .inv .3)), λ d. rw (← done) (q .inv .5 d)))
 
 pub keep-pending-spec : {M : Type 1} → statement M
 keep-pending-spec =
@@ -137,16 +174,23 @@ keep-pending-spec =
     Inv-loop
     μ-loop
     loop-holds
-    cast-place
-    mul-place
-    slice-read-place
-    cast-share
+    term-and-room-requires
+    cast-at
+    mul-own
+    slice-read-own
+    add-period
+    mul-period
+    slice-read-period
+    add-ahead
+    mul-ahead
+    slice-read-ahead
+    add-share
     mul-share
-    shared-slice-read-share
-    term-requires
-    cast-pending
-    mul-pending
-    slice-write-pending
+    slice-read-share
+    add-rise
+    mul-rise
+    slice-read-rise
+    put-row-requires
     add-left
     add-settled
     add-next

@@ -7,30 +7,26 @@ use native.Mathlib.Nat.{mul-le-mul, le-trans}
 use lib.Dec.{leb}
 use denote.Ref.{now}
 use Rattle.laws.proofs.Sum.{total-within}
-use Rattle.laws.specs.Places.{over}
-use Rattle.rows.specs.Words.{sheetOf}
-use Rattle.analysis.specs.Inner.{lineOf}
+use Rattle.analysis.specs.Kept.{lineAt}
 use Rattle.analysis.proofs.Chord.{line-within-cap}
 use Rattle.analysis.proofs.jumps.line_excludes.Statement.{statement}
 use Rattle.analysis.proofs.jumps.line_excludes.Tie as tie
 
 line-sum-requires : tie.Need-line-sum-requires
-line-sum-requires c κs =
-    let p = c .before .before .before .before in
-    (p .pre .0, p .pre .1, p .pre .2, p .pre .5, p .pre .6)
+line-sum-requires c κs = let p = c .before in (p .pre .0, p .pre .3, p .pre .4)
 
 -- Processors times cap is within 64 millions.
 product-small : (s : tie.Start) → s .args .processors * s .args .cap ≤ 64_000_000
-product-small s = mul-le-mul (s .pre .4) (s .pre .6)
+product-small s = mul-le-mul (s .pre .2) (s .pre .4)
 
 mul-result : tie.Need-mul-result
-mul-result c = omega (arith, product-small (c .before .before .before .before .before))
+mul-result c = omega (arith, product-small (c .before .before))
 
 cast-result : tie.Need-cast-result
-cast-result c = omega (arith, product-small (c .before .before .before .before .before))
+cast-result c = omega (arith, product-small (c .before .before))
 
 mul-result-2 : tie.Need-mul-result-2
-mul-result-2 c = omega (arith, product-small (c .before .before .before .before .before))
+mul-result-2 c = omega (arith, product-small (c .before .before))
 
 cast-result-2 : tie.Need-cast-result-2
 cast-result-2 c = search needs
@@ -40,21 +36,20 @@ mul-result-3 c = search needs
 
 add-result : tie.Need-add-result
 add-result c =
-    let p = c .before .before .before .before .before .before in
+    let p = c .before .before .before in
     omega (
       arith,
-      p .pre .3,
-      p .pre .0 .rows .at-most,
-      p .pre .2 .few,
-      p .pre .6,
+      p .pre .1,
+      p .pre .0 .few,
+      p .pre .4,
       c .before .line-sum .ensures,
-      total-within (over (lineOf (sheetOf (now (p .args .words))) (now (p .args .bounds)) (now (p .args .taken)) (p .args .x) (p .args .cap)) (now (p .args .pending)))
-          4_294_967_296_000_000 (p .args .rows .left) (λ i h. le-trans (line-within-cap _ _ _ _ _ _) (omega (arith, p .pre .6))),
+      total-within (lineAt (now (p .args .others)) (p .args .x) (p .args .cap)) 4_294_967_296_000_000 (p .args .rows .left)
+          (λ i h. le-trans (line-within-cap _ _ _ _) (omega (arith, p .pre .4))),
     )
 
 returns : tie.Need-returns
 returns c =
-    let p = c .before .before .before .before .before .before in
+    let p = c .before .before .before in
     ap (λ (n : ℕ). leb (4_294_967_296 * (p .args .processors * p .args .cap)) (4_294_967_296 * p .args .rows .settled + n)) (c .before .line-sum .ensures)
 
 pub line-excludes-spec : {M : Type 1} → statement M

@@ -1,31 +1,14 @@
--- `term_and_room` is the least of work, share and cap, and what is left to the reach.
+-- `term_and_room` is the least of work, share and cap, and what is left to what comes for certain.
 use borrow.Author.Needs.{needs}
 use native.Mathlib.Omega.{arith}
 use mathlib.Core.Path.{_∙_, ap₂}
 use Prim.Native.Nat.{_+_, _*_, _-_, _/_, _≤_, min}
-use lib.ListN.{getD}
 use denote.Ref.{now}
-use Rattle.model.specs.Sheet.{triples}
-use Rattle.model.specs.Interference.{work, workOf}
-use Rattle.rows.specs.Words.{sheetOf}
-use Rattle.analysis.specs.Inner.{termOf, roomOf}
+use Rattle.analysis.specs.Kept.{costAt, periodAt, aheadAt, termAt, roomAt}
 use Rattle.analysis.proofs.Limits.{periods-within}
-use Rattle.analysis.proofs.Sizes.{sizes}
 use Rattle.analysis.proofs.Exclusion.{reach-above}
 use Rattle.analysis.proofs.jumps.term_and_room.Statement.{statement}
 use Rattle.analysis.proofs.jumps.term_and_room.Tie as tie
-
-mul-share : tie.Need-mul-share
-mul-share c = search needs
-
-shared-slice-read-share : tie.Need-shared-slice-read-share
-shared-slice-read-share c = search needs
-
-mul-at : tie.Need-mul-at
-mul-at c = search needs
-
-add-second : tie.Need-add-second
-add-second c = search needs
 
 mul-own : tie.Need-mul-own
 mul-own c = search needs
@@ -33,11 +16,17 @@ mul-own c = search needs
 shared-slice-read-own : tie.Need-shared-slice-read-own
 shared-slice-read-own c = search needs
 
+add-period : tie.Need-add-period
+add-period c = search needs
+
 mul-period : tie.Need-mul-period
 mul-period c = search needs
 
 shared-slice-read-period : tie.Need-shared-slice-read-period
 shared-slice-read-period c = search needs
+
+add-time : tie.Need-add-time
+add-time c = search needs
 
 mul-time : tie.Need-mul-time
 mul-time c = search needs
@@ -45,14 +34,20 @@ mul-time c = search needs
 shared-slice-read-time : tie.Need-shared-slice-read-time
 shared-slice-read-time c = search needs
 
-add-time : tie.Need-add-time
-add-time c = let p = c .before .before .before .before .before .before .before in let known = sizes _ _ (p .pre .0) (p .args .other) (p .pre .1) in omega (arith, p .pre .3)
+add-time-2 : tie.Need-add-time-2
+add-time-2 c = let p = c .before .before .before .before in let row = p .pre .2 in omega (arith, row .small-ahead, p .pre .3)
 
-sub-time : tie.Need-sub-time
-sub-time c = let p = c .before .before .before .before .before .before .before in let known = sizes _ _ (p .pre .0) (p .args .other) (p .pre .1) in omega arith
+add-share : tie.Need-add-share
+add-share c = search needs
+
+mul-share : tie.Need-mul-share
+mul-share c = search needs
+
+shared-slice-read-share : tie.Need-shared-slice-read-share
+shared-slice-read-share c = search needs
 
 work-in-time-requires : tie.Need-work-in-time-requires
-work-in-time-requires c κs = let p = c .before .before .before .before .before .before .before in let known = sizes _ _ (p .pre .0) (p .args .other) (p .pre .1) in omega (arith, p .pre .3)
+work-in-time-requires c κs = let p = c .before .before .before .before .before in let row = p .pre .2 in omega (arith, row .some-cost, row .by-period, row .small-period, row .small-ahead, p .pre .3)
 
 lesser-requires : tie.Need-lesser-requires
 lesser-requires c κs = search needs
@@ -61,57 +56,71 @@ lesser-requires-2 : tie.Need-lesser-requires-2
 lesser-requires-2 c κs = search needs
 
 div-whole : tie.Need-div-whole
-div-whole c = let p = c .before .before .before .before .before .before .before .before .before .before in let known = sizes _ _ (p .pre .0) (p .args .other) (p .pre .1) in omega arith
+div-whole c = let p = c .before .before .before .before .before .before .before .before in let row = p .pre .2 in omega (arith, row .some-cost, row .by-period)
 
 -- The costs of the whole periods are within two millions.
-whole-small : (s : tie.Start) → let words = now (s .args .words) in
-    let own = getD words (3 * s .args .other) 0 in
-    (s .args .x + getD (now (s .args .bounds)) (s .args .other) 0 - own) / getD words (3 * s .args .other + 2) 0 * own ≤ 2_000_000
+whole-small : (s : tie.Start) → let l = now (s .args .others) in
+    (s .args .x + aheadAt l (s .args .place)) / periodAt l (s .args .place) * costAt l (s .args .place) ≤ 2_000_000
 whole-small s =
-    let words = now (s .args .words) in
-    let own = getD words (3 * s .args .other) 0 in
-    let known = sizes _ _ (s .pre .0) (s .args .other) (s .pre .1) in
-    let time = s .args .x + getD (now (s .args .bounds)) (s .args .other) 0 - own in
-    omega (arith, s .pre .3, periods-within time (getD words (3 * s .args .other + 2) 0) own (known .by-period))
+    let l = now (s .args .others) in
+    let row = s .pre .2 in
+    omega (arith, s .pre .3, row .small-ahead, periods-within (s .args .x + aheadAt l (s .args .place)) (periodAt l (s .args .place)) (costAt l (s .args .place)) (row .by-period))
 
 mul-whole : tie.Need-mul-whole
-mul-whole c = omega (arith, whole-small (c .before .before .before .before .before .before .before .before .before .before))
+mul-whole c = omega (arith, whole-small (c .before .before .before .before .before .before .before .before))
 
-certain-requires : tie.Need-certain-requires
-certain-requires c κs = let p = c .before .before .before .before .before .before .before .before .before .before in let known = sizes _ _ (p .pre .0) (p .args .other) (p .pre .1) in (whole-small p, omega arith)
+add-lesser : tie.Need-add-lesser
+add-lesser c = search needs
+
+mul-lesser : tie.Need-mul-lesser
+mul-lesser c = search needs
+
+shared-slice-read-lesser : tie.Need-shared-slice-read-lesser
+shared-slice-read-lesser c = search needs
+
+add-lesser-2 : tie.Need-add-lesser-2
+add-lesser-2 c = let p = c .before .before .before .before .before .before .before .before .before in let row = p .pre .2 in omega (arith, whole-small p, row .small-rise)
+
+lesser-requires-3 : tie.Need-lesser-requires-3
+lesser-requires-3 c κs = search needs
 
 sub-room : tie.Need-sub-room
 sub-room c =
-    let least = c .before .lesser2 .ensures in
-    rw (c .certain .ensures) (reach-above _ _ _ _ _ (omega (arith, c .before .before .before .work-in-time .ensures, least)) (omega (arith, least, c .before .before .lesser .ensures)))
+    let p = c .before .before .before .before .before .before .before .before .before .before in
+    let least = c .before .before .lesser2 .ensures in
+    rw (c .lesser3 .ensures, p .pre .2 .comes) (reach-above _ _ _ _ _ (omega (arith, c .before .before .before .before .work-in-time .ensures, least)) (omega (arith, least, c .before .before .before .lesser .ensures)))
 
 returns : tie.Need-returns
-unfolding termOf roomOf workOf work sheetOf triples
+unfolding termAt roomAt
 returns c =
-    let term = c .before .lesser2 .ensures ∙ ap₂ min (c .before .before .before .work-in-time .ensures) (c .before .before .lesser .ensures) in
-    (term, ap₂ _-_ (c .certain .ensures) term)
+    let term = c .before .before .lesser2 .ensures ∙ ap₂ min (c .before .before .before .before .work-in-time .ensures) (c .before .before .before .lesser .ensures) in
+    (term, ap₂ _-_ (c .lesser3 .ensures ∙ c .before .before .before .before .before .before .before .before .before .before .pre .2 .comes _) term)
 
 pub term-and-room-spec : {M : Type 1} → statement M
 term-and-room-spec =
     tie.close
     (tie.spec
-    mul-share
-    shared-slice-read-share
-    mul-at
-    add-second
     mul-own
     shared-slice-read-own
+    add-period
     mul-period
     shared-slice-read-period
+    add-time
     mul-time
     shared-slice-read-time
-    add-time
-    sub-time
+    add-time-2
+    add-share
+    mul-share
+    shared-slice-read-share
     work-in-time-requires
     lesser-requires
     lesser-requires-2
     div-whole
     mul-whole
-    certain-requires
+    add-lesser
+    mul-lesser
+    shared-slice-read-lesser
+    add-lesser-2
+    lesser-requires-3
     sub-room
     returns)

@@ -1,5 +1,6 @@
 -- `run_at_once` starts from the deadlines, which are ready and hold what bounds on the way hold.
-use mathlib.Core.Path.{_≡_, sym}
+use borrow.Author.Needs.{needs}
+use mathlib.Core.Path.{_≡_, refl, sym}
 use denote.Ref.{now}
 use Prim.Native.Nat.{ℕ}
 use lib.ListN.{length, take, replicate}
@@ -9,7 +10,6 @@ use Rattle.model.proofs.Refine.{deadlines-held}
 use Rattle.rows.specs.Words.{sheetOf}
 use Rattle.analysis.proofs.Steps.{ask-regular}
 use Rattle.analysis.proofs.Refinement.{deadlines-ready}
-use borrow.Author.Needs.{needs}
 use Rattle.analysis.proofs.passes.run_at_once.Statement.{statement}
 use Rattle.analysis.proofs.passes.run_at_once.Tie as tie
 
@@ -32,29 +32,20 @@ array-borrow-prefix-drops c = search needs
 slice-aggregate-settle-at-once-2 : tie.Need-slice-aggregate-settle-at-once-2
 slice-aggregate-settle-at-once-2 c = sym (space (c .before .before .before .before .before .before .before .before .before))
 
-array-borrow-prefix-taken : tie.Need-array-borrow-prefix-taken
-array-borrow-prefix-taken c = search needs
-
 slice-aggregate-settle-at-once-3 : tie.Need-slice-aggregate-settle-at-once-3
-slice-aggregate-settle-at-once-3 c = sym (space (c .before .before .before .before .before .before .before .before .before .before))
-
-array-borrow-prefix-pending : tie.Need-array-borrow-prefix-pending
-array-borrow-prefix-pending c = search needs
-
-slice-aggregate-settle-at-once-4 : tie.Need-slice-aggregate-settle-at-once-4
-slice-aggregate-settle-at-once-4 c = sym (space (c .before .before .before .before .before .before .before .before .before .before .before))
+slice-aggregate-settle-at-once-3 c = refl
 
 array-borrow-prefix-room : tie.Need-array-borrow-prefix-room
 array-borrow-prefix-room c = search needs
 
-slice-aggregate-settle-at-once-5 : tie.Need-slice-aggregate-settle-at-once-5
-slice-aggregate-settle-at-once-5 c = sym (space (c .before .before .before .before .before .before .before .before .before .before .before .before))
+slice-aggregate-settle-at-once-4 : tie.Need-slice-aggregate-settle-at-once-4
+slice-aggregate-settle-at-once-4 c = sym (space (c .before .before .before .before .before .before .before .before .before .before .before))
 
 settle-at-once-requires : tie.Need-settle-at-once-requires
 settle-at-once-requires c κs =
-    let p = c .before .before .before .before .before .before .before .before .before .before .before .before in
+    let p = c .before .before .before .before .before .before .before .before .before .before .before in
     let words = now (p .args .words) in
-    rw (c .before .before .before .before .before .before .before .before .fill-deadlines .ensures) (
+    rw (c .before .before .before .before .before .before .before .fill-deadlines .ensures) (
       deadlines-ready words (p .pre .0),
       p .pre .1,
       p .pre .2,
@@ -62,8 +53,7 @@ settle-at-once-requires c κs =
       space p,
       space p,
       p .pre .4,
-      space p,
-      space p,
+      refl,
       space p,
     )
 
@@ -82,12 +72,9 @@ run-at-once-spec =
     slice-aggregate-settle-at-once
     array-borrow-prefix-drops
     slice-aggregate-settle-at-once-2
-    array-borrow-prefix-taken
     slice-aggregate-settle-at-once-3
-    array-borrow-prefix-pending
-    slice-aggregate-settle-at-once-4
     array-borrow-prefix-room
-    slice-aggregate-settle-at-once-5
+    slice-aggregate-settle-at-once-4
     settle-at-once-requires
     same-length
     returns)

@@ -1,10 +1,12 @@
--- `answer_quickly` lends the fronts of three times 64 words, which every allowed sheet fits.
-use mathlib.Core.Path.{_≡_, sym}
+-- `answer_quickly` lends space that every allowed sheet fits, and its answer is told by one number.
+use borrow.Author.Needs.{needs}
+use mathlib.Core.Path.{_≡_, refl, sym}
 use Prim.Native.Nat.{ℕ}
 use lib.ListN.{length, take, replicate}
 use lib.Seq.{length-take-le}
+use denote.Ref.{now}
 use native.Mathlib.Omega.{arith}
-use borrow.Author.Needs.{needs}
+use Rattle.analysis.proofs.ByMethod.{found-told}
 use Rattle.analysis.proofs.response.answer_quickly.Statement.{statement}
 use Rattle.analysis.proofs.response.answer_quickly.Tie as tie
 
@@ -12,41 +14,31 @@ use Rattle.analysis.proofs.response.answer_quickly.Tie as tie
 front : (s : tie.Start) → length {A = ℕ} (take (s .args .count) (replicate 64 0)) ≡ s .args .count
 front s = length-take-le (s .args .count) (replicate 64 0) (omega (arith, s .pre .2, s .pre .0 .rows .at-most))
 
-array-borrow-prefix-taken : tie.Need-array-borrow-prefix-taken
-array-borrow-prefix-taken c = search needs
-
-slice-aggregate-answer-quickly-in : tie.Need-slice-aggregate-answer-quickly-in
-slice-aggregate-answer-quickly-in c = sym (front (c .before .before .before))
-
-array-borrow-prefix-pending : tie.Need-array-borrow-prefix-pending
-array-borrow-prefix-pending c = search needs
-
-slice-aggregate-answer-quickly-in-2 : tie.Need-slice-aggregate-answer-quickly-in-2
-slice-aggregate-answer-quickly-in-2 c = sym (front (c .before .before .before .before))
+slice-aggregate-bound-quickly : tie.Need-slice-aggregate-bound-quickly
+slice-aggregate-bound-quickly c = refl
 
 array-borrow-prefix-room : tie.Need-array-borrow-prefix-room
 array-borrow-prefix-room c = search needs
 
-slice-aggregate-answer-quickly-in-3 : tie.Need-slice-aggregate-answer-quickly-in-3
-slice-aggregate-answer-quickly-in-3 c = sym (front (c .before .before .before .before .before))
+slice-aggregate-bound-quickly-2 : tie.Need-slice-aggregate-bound-quickly-2
+slice-aggregate-bound-quickly-2 c = sym (front (c .before .before .before .before))
 
-answer-quickly-in-requires : tie.Need-answer-quickly-in-requires
-answer-quickly-in-requires c κs =
-    let p = c .before .before .before .before .before in
-    (p .pre .0, p .pre .1, p .pre .2, p .pre .3, front (c .before .before .before .before .before), front (c .before .before .before .before .before), front (c .before .before .before .before .before), p .pre .4)
+bound-quickly-requires : tie.Need-bound-quickly-requires
+bound-quickly-requires c κs = let p = c .before .before .before .before in (p .pre .0, p .pre .1, p .pre .2, p .pre .3, p .pre .4, refl, front p)
+
+found-of-requires : tie.Need-found-of-requires
+found-of-requires c κs = search needs
 
 returns : tie.Need-returns
-returns c = search needs
+returns c = let p = c .before .before .before .before .before .before .before .before in found-told (now (p .args .words)) (now (p .args .bounds)) (p .args .processors) (p .args .row) (p .args .method) _ _ (p .pre .0) (p .pre .1) (c .before .before .before .bound-quickly .ensures) (c .found-of .ensures)
 
 pub answer-quickly-spec : {M : Type 1} → statement M
 answer-quickly-spec =
     tie.close
     (tie.spec
-    array-borrow-prefix-taken
-    slice-aggregate-answer-quickly-in
-    array-borrow-prefix-pending
-    slice-aggregate-answer-quickly-in-2
+    slice-aggregate-bound-quickly
     array-borrow-prefix-room
-    slice-aggregate-answer-quickly-in-3
-    answer-quickly-in-requires
+    slice-aggregate-bound-quickly-2
+    bound-quickly-requires
+    found-of-requires
     returns)

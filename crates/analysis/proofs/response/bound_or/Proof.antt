@@ -1,8 +1,8 @@
 -- `bound_or` goes by the cases of the answer.
 use borrow.Author.Needs.{needs}
 use Rattle.analysis.specs.Inner.{boundOr}
-use Rattle.analysis.proofs.passes.bound_or.Statement.{statement}
-use Rattle.analysis.proofs.passes.bound_or.Tie as tie
+use Rattle.analysis.proofs.response.bound_or.Statement.{statement}
+use Rattle.analysis.proofs.response.bound_or.Tie as tie
 
 enum-known-found : tie.Need-enum-known-found
 enum-known-found c = search needs
