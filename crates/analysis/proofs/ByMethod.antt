@@ -8,7 +8,7 @@ use Rattle.model.specs.Sheet.{Sheet}
 use Rattle.model.specs.Answer.{bclAnswer, rtaAnswer, methodOf, answer}
 use Rattle.model.proofs.Answer.{method-zero, method-other, answer-within}
 use Rattle.rows.specs.declared.Found.{Found}
-use Rattle.rows.specs.declared.Found.the-variants.{At, Nowhere}
+use Rattle.rows.specs.declared.Found.the-variants.{At}
 use Rattle.rows.specs.Words.{rowCount, sheetOf, foundOf}
 use Rattle.rows.proofs.Checks.{sound-row}
 use Rattle.analysis.specs.Inner.{Ready, boundOr, foundFrom}

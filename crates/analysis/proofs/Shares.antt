@@ -78,10 +78,6 @@ module _ (words R taken : List ℕ) (row count m : ℕ) (prepared : Prepared wor
   pub prepared-rows : count ≡ (sheetOf words) .rows
   prepared-rows = prepared .counted ∙ sym (sheet-rows words)
 
-  -- The same, counted by the words themselves.
-  pub prepared-counted : Prepared words R taken row (rowCount words) m
-  prepared-counted = rw (prepared .counted) at prepared
-
   pub prepared-length : length taken ≡ count
   prepared-length =
       ap length (prepared .shared) ∙ shares-length (sheetOf words) row R ∙ sym prepared-rows

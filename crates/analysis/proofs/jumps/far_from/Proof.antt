@@ -2,7 +2,7 @@
 use borrow.Author.Needs.{needs}
 use native.Mathlib.Omega.{arith}
 use mathlib.Core.Path.{sym, _∙_}
-use Prim.Native.Nat.{_+_, _-_, _≤_}
+use Prim.Native.Nat.{_-_, _≤_}
 use borrow.Author.Tests.{not-false, leb-true}
 use Rattle.analysis.proofs.Chord.{chord-passes}
 use Rattle.analysis.proofs.jumps.far_from.Statement.{statement}

@@ -4,12 +4,11 @@ use native.Mathlib.Omega.{arith}
 use mathlib.Core.Path.{_≡_, refl, _∙_, sym}
 use mathlib.Core.Logic.{⊎-elim}
 use Prim.Native.Nat.{ℕ, _+_, _*_, _-_, _≤_, _<_}
-use lib.ListN.{length}
 use denote.Ref.{now}
 use Rattle.laws.specs.Sum.{total}
 use Rattle.laws.proofs.Sum.{total-step}
-use Rattle.analysis.specs.Kept.{costAt, periodAt, aheadAt, shareAt, riseAt, putRow, termBy, termAt, KeptRow, KeptRows, keptSum}
-use Rattle.analysis.proofs.Kept.{Holds, put-length, put-other, holds-term, holds-kept, holds-through, holds-self, rows-same, rows-more, sum-more, sum-settled, whole-share}
+use Rattle.analysis.specs.Kept.{costAt, periodAt, aheadAt, shareAt, riseAt, termBy, termAt, KeptRow, KeptRows, keptSum}
+use Rattle.analysis.proofs.Kept.{Holds, put-other, holds-term, holds-kept, holds-through, holds-self, rows-same, rows-more, sum-more, sum-settled, whole-share}
 use Rattle.analysis.proofs.jumps.keep_pending.Statement.{statement}
 use Rattle.analysis.proofs.jumps.keep_pending.Tie as tie
 

@@ -2,7 +2,6 @@
 use borrow.Author.Needs.{needs}
 use native.Mathlib.Omega.{arith}
 use mathlib.Core.Path.{refl}
-use Prim.Native.Nat.{_≤_}
 use Rattle.analysis.proofs.jumps.leap_far.Statement.{statement}
 use Rattle.analysis.proofs.jumps.leap_far.Tie as tie
 

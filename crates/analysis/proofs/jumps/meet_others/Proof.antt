@@ -1,9 +1,6 @@
 -- `meet_others` takes in what stands before the row and what stands behind it: together all rows but one.
-use borrow.Author.Needs.{needs}
 use native.Mathlib.Omega.{arith}
-use mathlib.Core.Path.{_≡_, _∙_, sym}
-use Prim.Native.Nat.{ℕ, _+_, _*_, _-_, _≤_, _<_}
-use lib.ListN.{length}
+use mathlib.Core.Path.{_∙_, sym}
 use denote.Ref.{now}
 use Rattle.laws.specs.Sum.{total}
 use Rattle.rows.specs.Words.{sheetOf}

@@ -1,12 +1,9 @@
 -- `onward` stays where the terms do not fill the processors' time; where they do, the jump passes no solution.
 use borrow.Author.Needs.{needs}
 use native.Mathlib.Omega.{arith}
-use mathlib.Core.Path.{_≡_, _∙_, ap}
-use Prim.Native.Nat.{ℕ, _+_, _*_, _-_, _≤_, _<_}
+use Prim.Native.Nat.{_+_, _*_, _-_, _≤_}
 use native.Mathlib.Nat.{mul-le-mul}
-use lib.ListN.{length}
 use denote.Ref.{now}
-use Rattle.laws.specs.Sum.{total}
 use Rattle.laws.proofs.Sum.{total-within}
 use Rattle.analysis.specs.Kept.{termAt, keptSum}
 use Rattle.analysis.proofs.Exclusion.{term-small, rooms-filled, jump-passes}

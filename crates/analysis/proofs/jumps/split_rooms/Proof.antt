@@ -3,7 +3,7 @@ use borrow.Author.Needs.{needs}
 use native.Mathlib.Omega.{arith}
 use mathlib.Core.Path.{_≡_, _∙_, ap}
 use native.Mathlib.Nat.{zero-mul, add-mul}
-use Prim.Native.Nat.{ℕ, _+_, _*_, _-_, _≤_, _<_, min}
+use Prim.Native.Nat.{_+_, _*_, _-_, _≤_, min}
 use lib.ListN.{getD}
 use denote.Ref.{now}
 use Rattle.laws.specs.Sum.{total}

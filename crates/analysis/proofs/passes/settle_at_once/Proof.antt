@@ -1,5 +1,4 @@
 -- `settle_at_once` keeps what bounds on the way hold; each sweep that moves lowers their sum, and one that does not has reached the end.
-use borrow.Author.Needs.{needs}
 use mathlib.Core.Path.{_≡_, sym, _∙_, ap}
 use denote.Ref.{now}
 use borrow.Author.Tests.{not-true, not-false}

@@ -1,13 +1,11 @@
 -- `cap_line` is the cap itself: it stays for BCL, and falls with the row's own steps for RTA.
 use native.Mathlib.Omega.{arith}
 use denote.Ref.{now}
-use Prim.Native.Nat.{ℕ, _+_, _*_, _-_, _≤_}
+use Prim.Native.Nat.{ℕ, _*_, _≤_}
 use lib.ListN.{getD}
 use native.Mathlib.Nat.{mul-le-mul, le-refl}
-use Rattle.rows.specs.Words.{sheetOf}
 use Rattle.rows.proofs.Words.{cost-word, sheet-rows}
 use Rattle.rows.proofs.Checks.{sound-row}
-use Rattle.analysis.specs.Ray.{stepTo}
 use Rattle.analysis.proofs.Ways.{cap-level, cap-with-row}
 use borrow.Author.Needs.{needs}
 use Rattle.analysis.proofs.ray.cap_line.Statement.{statement}

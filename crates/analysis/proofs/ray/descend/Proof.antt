@@ -1,11 +1,7 @@
 -- `descend` repeats what lowers bounds and keeps what they hold.
 use borrow.Author.Needs.{needs}
 use denote.Ref.{now}
-use mathlib.Core.Path.{_≡_, _∙_, sym}
-use Prim.Native.Nat.{_≤_}
-use native.Mathlib.Nat.{le-refl, le-trans}
-use Rattle.rows.specs.Words.{sheetOf}
-use Rattle.rows.proofs.Words.{sheet-rows}
+use mathlib.Core.Path.{_∙_, sym}
 use Rattle.analysis.specs.Ray.{Descended}
 use Rattle.analysis.specs.Refinement.{askOf}
 use Rattle.analysis.proofs.Steps.{ask-regular}

@@ -1,6 +1,5 @@
 -- `falling` takes the steeper line where it lasts for a step, and for no longer.
 use native.Mathlib.Omega.{arith}
-use Prim.Native.Nat.{min}
 use borrow.Author.Needs.{needs}
 use Rattle.analysis.proofs.ray.falling.Statement.{statement}
 use Rattle.analysis.proofs.ray.falling.Tie as tie

@@ -1,12 +1,11 @@
 -- `most_steps` is the least room of any row, so every row has as much.
 use borrow.Author.Needs.{needs}
 use native.Mathlib.Omega.{arith}
-use denote.Ref.{now}
-use Prim.Native.Nat.{ℕ, _+_, _*_, _-_, _≤_, _<_, min}
+use Prim.Native.Nat.{ℕ, _+_, _*_, _-_, _≤_, _<_}
 use lib.ListN.{getD}
 use borrow.Author.Count.{below-more}
 use native.Mathlib.Nat.{le-trans, add-le-add, mul-le-mul, le-refl}
-use Rattle.rows.specs.Words.{rowCount, sheetOf}
+use Rattle.rows.specs.Words.{sheetOf}
 use Rattle.analysis.proofs.ray.most_steps.Statement.{statement}
 use Rattle.analysis.proofs.ray.most_steps.Tie as tie
 

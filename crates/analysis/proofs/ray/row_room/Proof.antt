@@ -1,7 +1,7 @@
 -- `row_room` divides what lies above the cost by the drop; without a drop there is room for any number of steps.
 use native.Mathlib.Omega.{arith}
 use denote.Ref.{now}
-use Prim.Native.Nat.{ℕ, _*_, _-_, _≤_}
+use Prim.Native.Nat.{_*_, _-_, _≤_}
 use lib.ListN.{getD}
 use native.Mathlib.Nat.{mul-zero, zero-add, div-mul-le-self}
 use Rattle.rows.specs.Words.{sheetOf}

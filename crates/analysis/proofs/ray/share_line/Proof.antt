@@ -1,7 +1,6 @@
 -- `share_line` lies over the share: it never rises, and falls with the bound while the carried job lasts.
 use native.Mathlib.Omega.{arith}
 use native.Mathlib.Nat.{zero-add}
-use Prim.Native.Nat.{_%_, _-_, min}
 use Rattle.model.proofs.Lines.{share-falls, share-falls-fast}
 use borrow.Author.Needs.{needs}
 use Rattle.analysis.proofs.ray.share_line.Statement.{statement}

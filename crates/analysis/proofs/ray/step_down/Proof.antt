@@ -1,7 +1,7 @@
 -- `step_down` puts each lower bound behind those before it, until all are there.
 use borrow.Author.Needs.{needs}
 use native.Mathlib.Omega.{arith}
-use mathlib.Core.Path.{_≡_, _∙_, ap, refl}
+use mathlib.Core.Path.{_≡_, _∙_, ap}
 use mathlib.Core.List.{_++_}
 use Prim.Native.Nat.{ℕ, _*_, _-_, _≤_, _<_}
 use lib.ListN.{length, getD, drop, length-set}

@@ -5,7 +5,7 @@ use mathlib.Core.Path.{_≡_}
 use denote.Ref.{now}
 use Prim.Native.Nat.{_-_, _≤_}
 use Rattle.model.specs.Answer.{methodOf}
-use Rattle.rows.specs.Words.{rowCount, sheetOf}
+use Rattle.rows.specs.Words.{sheetOf}
 use Rattle.rows.proofs.Words.{sheet-rows}
 use Rattle.analysis.specs.Ray.{addedAlong}
 use Rattle.analysis.proofs.Ways.{Summed, summed-none, summed-more, summed-all}

@@ -1,6 +1,6 @@
 -- `work_line` lies over the work: whole periods of a step take whole costs, and the rest takes itself while the time ends within a job.
 use native.Mathlib.Omega.{arith}
-use Prim.Native.Nat.{_/_, _%_, _*_, _+_, _≤_, min}
+use Prim.Native.Nat.{_/_, _*_, _≤_}
 use native.Mathlib.Nat.{div-add-mod', mul-le-mul, le-refl}
 use Rattle.model.proofs.Lines.{work-falls, work-falls-fast}
 use Rattle.analysis.proofs.Limits.{periods-within}

@@ -1,6 +1,6 @@
 -- `bound_quickly` hands the row to the method that its number names.
 use borrow.Author.Needs.{needs}
-use mathlib.Core.Path.{_≡_, refl, _∙_, ap}
+use mathlib.Core.Path.{refl, _∙_, ap}
 use Rattle.rows.specs.declared.Found.{Found}
 use Rattle.analysis.specs.Inner.{boundOr}
 use Rattle.analysis.proofs.ByMethod.{by-bcl, by-rta}

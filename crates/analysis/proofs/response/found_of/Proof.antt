@@ -1,5 +1,4 @@
 -- `found_of` goes by the cases of the number.
-use borrow.Author.Needs.{needs}
 use Rattle.analysis.specs.Inner.{foundFrom}
 use Rattle.analysis.proofs.ByMethod.{found-positive}
 use Rattle.analysis.proofs.response.found_of.Statement.{statement}
