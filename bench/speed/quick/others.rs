@@ -91,9 +91,9 @@ impl Others {
         self.settled + shares.sum::<u32>()
     }
 
-    /// The sum of what the rows add at a value, each up to a cap; their rooms are worked out on the way.
-    pub fn sum(&mut self, tried: u32, cap: u32) -> u32 {
-        let mut sum = self.settled;
+    /// The sum of what the rows add at a value, each up to a cap, and the sum of their rooms, which are worked out on the way.
+    pub fn sum(&mut self, tried: u32, cap: u32) -> (u32, u32) {
+        let (mut sum, mut rooms) = (self.settled, 0);
         for (row, room) in self.rows[..self.count].iter().zip(&mut self.room) {
             let reach = tried + row.ahead;
             let periods = reach / row.period;
@@ -101,9 +101,10 @@ impl Others {
             let into = reach - periods * row.period;
             let term = (whole + into.min(row.cost)).min(row.share.min(cap));
             *room = (whole + row.rise).min(row.share) - term;
+            rooms += *room;
             sum += term;
         }
-        sum
+        (sum, rooms)
     }
 
     /// Of a stretch behind the value tried: the rooms that end within it, summed up, and how many rows rise all the way.

@@ -19,7 +19,7 @@ use Rattle.model.specs.Interference.{carried, rtaRight}
 use Rattle.model.proofs.Interference.{rtaRight-rises}
 use Rattle.model.proofs.Rise.{carried-within, carried-rises, carried-full}
 use Rattle.analysis.specs.Inner.{reach, Rooms, Jumped}
-use Rattle.analysis.specs.Kept.{costAt, periodAt, aheadAt, shareAt, termBy, termAt, roomAt, KeptRows, keptSum, Met, Passed}
+use Rattle.analysis.specs.Kept.{costAt, periodAt, aheadAt, shareAt, termBy, termAt, topAt, roomAt, KeptRows, keptSum, Met, Passed}
 
 -- What holds in both cases holds of what a term comes to for certain.
 pub by-period : (P : ℕ → Type 0) (c t whole share : ℕ) → (c ≡ t → P share) → P (min (whole + c) share) → P (reach c t whole share)
@@ -65,19 +65,28 @@ one-rises c t a s x cap d some-period =
 module _ (l : List ℕ) (left : ℕ) (rows : KeptRows l left) where
   -- The same of a row of the list.
   term-rises : (j x cap d : ℕ) → j < left → termAt l x cap j + min d (roomAt l x cap j) ≤ termAt l (x + d) (cap + d) j
-  unfolding termAt roomAt
+  unfolding termAt roomAt topAt
   term-rises j x cap d h =
       let row = rows .each j h in
       one-rises (costAt l j) (periodAt l j) (aheadAt l j) (shareAt l j) x cap d (omega (arith, row .some-cost, row .by-period))
 
-  -- A term is within the cap and the share, and a room within the share.
-  pub term-small : (j x cap : ℕ) → j < left → termAt l x cap j ≤ 1_000_000
-  unfolding termAt
-  term-small j x cap h = omega (arith, rows .each j h .small-share)
+  -- A term is within what it comes to, which is within the share.
+  pub term-within : (j x cap : ℕ) → j < left → termAt l x cap j ≤ topAt l x j
+  unfolding termAt topAt
+  term-within j x cap h = reach-above (costAt l j) (periodAt l j) (x + aheadAt l j) (shareAt l j) _ (omega arith) (omega arith)
 
-  pub room-small : (j x cap : ℕ) → j < left → roomAt l x cap j ≤ 1_000_000
+  pub top-small : (j x : ℕ) → j < left → topAt l x j ≤ 1_000_000
+  unfolding topAt
+  top-small j x h =
+      omega (
+        arith,
+        rows .each j h .small-share,
+        reach-within (costAt l j) (periodAt l j) ((x + aheadAt l j) / periodAt l j * costAt l j) (shareAt l j),
+      )
+
+  room-small : (j x cap : ℕ) → j < left → roomAt l x cap j ≤ 1_000_000
   unfolding roomAt
-  room-small j x cap h = omega (arith, rows .each j h .small-share, reach-within (costAt l j) (periodAt l j) ((x + aheadAt l j) / periodAt l j * costAt l j) (shareAt l j))
+  room-small j x cap h = omega (arith, top-small j x h)
 
   -- The rooms that were filled in are rooms.
   pub rooms-filled : (room before : List ℕ) (x cap : ℕ) → left ≤ length room → room ≡ listed (roomAt l x cap) left ++ drop left before → Rooms room left

@@ -36,9 +36,13 @@ termBy c t a s x cap = min (carried c t (x + a)) (min s cap)
 unfoldable pub termAt : List ℕ → ℕ → ℕ → ℕ → ℕ
 termAt l x cap j = termBy (costAt l j) (periodAt l j) (aheadAt l j) (shareAt l j) x cap
 
--- How far above that it comes for certain.
+-- What that comes to for certain.
+unfoldable pub topAt : List ℕ → ℕ → ℕ → ℕ
+topAt l x j = reach (costAt l j) (periodAt l j) ((x + aheadAt l j) / periodAt l j * costAt l j) (shareAt l j)
+
+-- How far above the term that is.
 unfoldable pub roomAt : List ℕ → ℕ → ℕ → ℕ → ℕ
-roomAt l x cap j = reach (costAt l j) (periodAt l j) ((x + aheadAt l j) / periodAt l j * costAt l j) (shareAt l j) - termAt l x cap j
+roomAt l x cap j = topAt l x j - termAt l x cap j
 
 -- What a line below row j's work gives at X: cost / period of the time, within its share and the cap, in parts of 2 ^ 32. The slope is rounded
 -- down to such parts.

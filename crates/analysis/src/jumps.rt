@@ -15,12 +15,12 @@ ghost use Rattle.laws.specs.Fill.{listed};
 ghost use Rattle.model.specs.Answer.{rtaAnswer};
 ghost use Rattle.rows.specs.Words.{rowCount, sheetOf, foundOf};
 ghost use Rattle.analysis.specs.Inner.{Ready, boundOr, reach, Rooms, Jumped};
-ghost use Rattle.analysis.specs.Kept.{KeptRow, KeptRows, putRow, termAt, roomAt, lineAt, keptSum, metTerm, Met, Passed};
+ghost use Rattle.analysis.specs.Kept.{KeptRow, KeptRows, putRow, termAt, topAt, roomAt, lineAt, keptSum, metTerm, Met, Passed};
 
-// What other rows add at X, and their room: how much more they add for certain, one a step each.
+// What other rows add at X, and what that comes to for certain, one a step each.
 pub(crate) struct Rise {
     pub term: u32,
-    pub room: u32,
+    pub top: u32,
 }
 
 // How many rows are kept, and what the others add: their whole share.
@@ -71,11 +71,11 @@ pub(crate) fn put_row(
     others[at + 256] = rise;
 }
 
-// What a row of the list adds at X, and its room.
-pub(crate) fn term_and_room(others: &[u32], place: u32, x: u32, cap: u32) -> Rise
+// What a row of the list adds at X, and what that comes to for certain.
+pub(crate) fn term_and_top(others: &[u32], place: u32, x: u32, cap: u32) -> Rise
     requires { ⌜ (length (now others) ≡ 320) × (place < 64) × KeptRow (now others) place × (x ≤ 1_000_000) ⌝ }
     ensures adds { λ r. ⌜ (r .term) ≡ termAt (now (others .entry)) x cap place ⌝ }
-    ensures more { λ r. ⌜ (r .room) ≡ roomAt (now (others .entry)) x cap place ⌝ }
+    ensures comes { λ r. ⌜ (r .top) ≡ topAt (now (others .entry)) x place ⌝ }
 {
     let at = place as usize;
     let own = others[at];
@@ -84,10 +84,10 @@ pub(crate) fn term_and_room(others: &[u32], place: u32, x: u32, cap: u32) -> Ris
     let share = others[at + 192];
     let term = lesser(work_in_time(own, period, time), lesser(share, cap));
     let whole = time / period * own;
-    let room = lesser(whole + others[at + 256], share) - term;
+    let top = lesser(whole + others[at + 256], share);
     Rise {
         term: term,
-        room: room,
+        top: top,
     }
 }
 
@@ -162,7 +162,7 @@ pub(crate) fn keep_pending(others: &mut [u32], rows: Pending, x: u32, cap: u32) 
     let mut left = 0;
     let mut next = 0;
     while next < all {
-        let here = term_and_room(others, next, x, cap);
+        let here = term_and_top(others, next, x, cap);
         let at = next as usize;
         let own = others[at];
         let period = others[at + 64];
@@ -183,26 +183,28 @@ pub(crate) fn keep_pending(others: &mut [u32], rows: Pending, x: u32, cap: u32) 
     }
 }
 
-// What the rows kept add at X, and the sum of their rooms; the room of each is written to the lent words.
-pub(crate) fn fill_rooms(others: &[u32], left: u32, x: u32, cap: u32, room: &mut [u32]) -> Rise
-    requires { ⌜ KeptRows (now others) left × (x ≤ 1_000_000) × (left ≤ length (now room)) ⌝ }
-    ensures summed { λ r. ⌜ (r .term) ≡ total (termAt (now (others .entry)) x cap) left ⌝ }
-    ensures filled { λ r. ⌜ now (room .exit) ≡ listed (roomAt (now (others .entry)) x cap) left ++ drop left (now (room .entry)) ⌝ }
-    ensures small { λ r. ⌜ (r .room) ≤ 64_000_000 ⌝ }
+// What is settled and what the rows kept add at X, and what that comes to for certain; the room of each between the two is written to the
+// lent words.
+pub(crate) fn fill_rooms(others: &[u32], rows: Pending, x: u32, cap: u32, room: &mut [u32]) -> Rise
+    requires { ⌜ KeptRows (now others) (rows .left) × ((rows .settled) + (rows .left) * 1_000_000 ≤ 64_000_000) × (x ≤ 1_000_000) × ((rows .left) ≤ length (now room)) ⌝ }
+    ensures summed { λ r. ⌜ (r .term) ≡ keptSum (now (others .entry)) (rows .left) (rows .settled) x cap ⌝ }
+    ensures filled { λ r. ⌜ now (room .exit) ≡ listed (roomAt (now (others .entry)) x cap) (rows .left) ++ drop (rows .left) (now (room .entry)) ⌝ }
+    ensures small { λ r. ⌜ ((r .term) ≤ (r .top)) × ((r .top) ≤ 64_000_000) ⌝ }
 {
-    let mut sum = 0;
-    let mut rooms = 0;
+    let left = rows.left;
+    let mut sum = rows.settled;
+    let mut tops = rows.settled;
     let mut next = 0;
     while next < left {
-        let here = term_and_room(others, next, x, cap);
+        let here = term_and_top(others, next, x, cap);
         sum += here.term;
-        rooms += here.room;
-        room[next as usize] = here.room;
+        tops += here.top;
+        room[next as usize] = here.top - here.term;
         next += 1;
     }
     Rise {
         term: sum,
-        room: rooms,
+        top: tops,
     }
 }
 
@@ -236,18 +238,11 @@ pub(crate) fn split_rooms(room: &[u32], count: u32, far: u32) -> Split
 
 // How many steps are excluded at once: the longest jump that Newton's rule meets, from what all rooms together pay for downward, on which the
 // sum keeps up.
-pub(crate) fn jump(
-    room: &[u32],
-    count: u32,
-    gain: u32,
-    rooms: u32,
-    processors: u32,
-    most: u32,
-) -> u32
-    requires { ⌜ Rooms (now room) count × (gain ≤ 64_000_000) × (rooms ≤ 64_000_000) × (1 ≤ processors) × (processors ≤ 64) × (most ≤ 1_000_000) ⌝ }
+pub(crate) fn jump(room: &[u32], count: u32, gain: u32, all: u32, processors: u32, most: u32) -> u32
+    requires { ⌜ Rooms (now room) count × (gain ≤ 64_000_000) × (1 ≤ processors) × (processors ≤ 64) × (most ≤ 1_000_000) ⌝ }
     ensures { λ r. ⌜ Jumped (now (room .entry)) count gain processors most r ⌝ }
 {
-    let mut far = lesser(most, (gain + rooms) / processors);
+    let mut far = lesser(most, all / processors);
     loop {
         let split = split_rooms(room, count, far);
         let wide = split.wide;
@@ -375,14 +370,14 @@ pub(crate) fn onward(
     ensures stands { λ r. ⌜ (r ≡ x → keptSum (now (others .entry)) (rows .left) (rows .settled) x (x - own + 1) < processors * (x - own + 1)) ⌝ }
 {
     let cap = x - own + 1;
-    let here = fill_rooms(others, rows.left, x, cap, room);
-    let sum = rows.settled + here.term;
+    let here = fill_rooms(others, rows, x, cap, room);
     let supply = processors * cap;
-    if sum < supply {
+    if here.term < supply {
         return x;
     }
-    let gain = sum - supply;
-    x + jump(room, rows.left, gain, here.room, processors, top - x) + 1
+    let gain = here.term - supply;
+    let all = here.top - supply;
+    x + jump(room, rows.left, gain, all, processors, top - x) + 1
 }
 
 // RTA: climbs from the cost past what is excluded to the least X that is its own right side; 0 where there is none up to the deadline.

@@ -8,17 +8,14 @@ use Rattle.analysis.proofs.jumps.jump.Statement.{statement}
 use Rattle.analysis.proofs.jumps.jump.Tie as tie
 
 abbrev Inv-loop : tie.InvT-loop
-Inv-loop room count gain rooms processors most far₀ far =
+Inv-loop room count gain all processors most far₀ far =
     far ≤ most
 
 abbrev μ-loop : tie.MeasureT-loop
-μ-loop room count gain rooms processors most far₀ far = far
-
-add-lesser : tie.Need-add-lesser Inv-loop μ-loop
-add-lesser c = omega (arith, c .before .pre .1, c .before .pre .2)
+μ-loop room count gain all processors most far₀ far = far
 
 div-lesser : tie.Need-div-lesser Inv-loop μ-loop
-div-lesser c = omega (arith, c .before .pre .3)
+div-lesser c = omega (arith, c .before .pre .2)
 
 lesser-requires : tie.Need-lesser-requires Inv-loop μ-loop
 lesser-requires c κs = search needs
@@ -38,10 +35,10 @@ product-small a b few small = mul-le-mul few small
 
 -- How far is within a million, as the most is.
 far-small : (c : tie.After-split-rooms Inv-loop μ-loop) → c .before .loop .far ≤ 1_000_000
-far-small c = omega (arith, c .before .before .before .before .pre .5, c .before .loop .inv)
+far-small c = omega (arith, c .before .before .before .before .pre .4, c .before .loop .inv)
 
 mul-if1 : tie.Need-mul-if1 Inv-loop μ-loop
-mul-if1 c = omega (arith, product-small (c .before .before .before .before .before .args .processors) (c .before .before .loop .far) (c .before .before .before .before .before .pre .4) (far-small (c .before)))
+mul-if1 c = omega (arith, product-small (c .before .before .before .before .before .args .processors) (c .before .before .loop .far) (c .before .before .before .before .before .pre .3) (far-small (c .before)))
 
 mul-if1-2 : tie.Need-mul-if1-2 Inv-loop μ-loop
 mul-if1-2 c =
@@ -88,7 +85,6 @@ jump-spec =
     (tie.spec
     Inv-loop
     μ-loop
-    add-lesser
     div-lesser
     lesser-requires
     loop-holds

@@ -61,8 +61,8 @@ passed c d =
       holds-term _ _ _ _ _ _ _ (stands c) (p .args .x + d) (p .args .cap + d),
     )
 
-term-and-room-requires : tie.Need-term-and-room-requires Inv-loop μ-loop
-term-and-room-requires c κs = let q = c .before .before .loop in (q .inv .2 .sized, omega (arith, c .before .before .before .before .pre .0 .few), kept (c .before), c .before .before .before .before .pre .2)
+term-and-top-requires : tie.Need-term-and-top-requires Inv-loop μ-loop
+term-and-top-requires c κs = let q = c .before .before .loop in (q .inv .2 .sized, omega (arith, c .before .before .before .before .pre .0 .few), kept (c .before), c .before .before .before .before .pre .2)
 
 cast-at : tie.Need-cast-at Inv-loop μ-loop
 cast-at c = search needs
@@ -125,15 +125,15 @@ loop-less : tie.Need-loop-less Inv-loop μ-loop
 loop-less c = search needs
 
 -- One that adds its whole share adds it ever after.
-settles : (c : tie.After-term-and-room Inv-loop μ-loop) → let p = c .before .before .before .before .before in
+settles : (c : tie.After-term-and-top Inv-loop μ-loop) → let p = c .before .before .before .before .before in
     let q = c .before .before .before .loop in
-    shareAt (q .others) (q .next) ≤ c .term-and-room .result .term
+    shareAt (q .others) (q .next) ≤ c .term-and-top .result .term
     → (d : ℕ) → termBy (costAt (q .others) (q .next)) (periodAt (q .others) (q .next)) (aheadAt (q .others) (q .next)) (shareAt (q .others) (q .next)) (p .args .x + d) (p .args .cap + d) ≡ shareAt (q .others) (q .next)
 unfolding termAt
 settles c whole d =
     let p = c .before .before .before .before .before in
     let row = kept (c .before .before) in
-    whole-share _ _ _ _ (p .args .x) (p .args .cap) d (omega (arith, row .some-cost, row .by-period)) (rw (← c .term-and-room .ensures .0) whole)
+    whole-share _ _ _ _ (p .args .x) (p .args .cap) d (omega (arith, row .some-cost, row .by-period)) (rw (← c .term-and-top .ensures .0) whole)
 
 loop-again : tie.Need-loop-again Inv-loop μ-loop
 loop-again c =
@@ -173,7 +173,7 @@ keep-pending-spec =
     Inv-loop
     μ-loop
     loop-holds
-    term-and-room-requires
+    term-and-top-requires
     cast-at
     mul-own
     slice-read-own

@@ -3,10 +3,7 @@ use borrow.Author.Needs.{needs}
 use native.Mathlib.Omega.{arith}
 use Prim.Native.Nat.{_+_, _*_, _-_, _≤_}
 use native.Mathlib.Nat.{mul-le-mul}
-use denote.Ref.{now}
-use Rattle.laws.proofs.Sum.{total-within}
-use Rattle.analysis.specs.Kept.{termAt, keptSum}
-use Rattle.analysis.proofs.Exclusion.{term-small, rooms-filled, jump-passes}
+use Rattle.analysis.proofs.Exclusion.{rooms-filled, jump-passes}
 use Rattle.analysis.proofs.jumps.onward.Statement.{statement}
 use Rattle.analysis.proofs.jumps.onward.Tie as tie
 
@@ -17,67 +14,57 @@ add-cap : tie.Need-add-cap
 add-cap c = omega (arith, c .before .before .pre .4, c .before .before .pre .5)
 
 fill-rooms-requires : tie.Need-fill-rooms-requires
-fill-rooms-requires c κs = let p = c .before .before .before in (p .pre .0, omega (arith, p .pre .4, p .pre .5), p .pre .8)
+fill-rooms-requires c κs = let p = c .before .before .before in (p .pre .0, p .pre .1, omega (arith, p .pre .4, p .pre .5), p .pre .8)
 
--- What is settled and what the rows add is within 64 millions, and so is what the processors supply.
-sum-small : (s : tie.Start) → keptSum (now (s .args .others)) (s .args .rows .left) (s .args .rows .settled) (s .args .x) (s .args .x - s .args .own + 1) ≤ 64_000_000
-sum-small s =
-    omega (
-      arith,
-      s .pre .1,
-      total-within (termAt (now (s .args .others)) (s .args .x) (s .args .x - s .args .own + 1)) 1_000_000 (s .args .rows .left)
-          (λ j h. term-small _ _ (s .pre .0) j (s .args .x) (s .args .x - s .args .own + 1) h),
-    )
-
+-- What the processors supply is within 64 millions.
 supply-small : (s : tie.Start) → s .args .processors * (s .args .x - s .args .own + 1) ≤ 64_000_000
 supply-small s =
     let small : s .args .x - s .args .own + 1 ≤ 1_000_000 = omega (arith, s .pre .2, s .pre .3, s .pre .4, s .pre .5) in
     mul-le-mul (s .pre .7) small
 
-add-sum : tie.Need-add-sum
-add-sum c = omega (arith, sum-small (c .before .before .before .before .before .before .before .before), c .before .before .before .before .fill-rooms .ensures .0)
-
 mul-supply : tie.Need-mul-supply
-mul-supply c = omega (arith, supply-small (c .before .before .before .before .before .before .before .before))
+mul-supply c = omega (arith, supply-small (c .before .before .before .before .before .before))
 
 same-length : tie.Need-same-length
 same-length c = search needs
 
 returns : tie.Need-returns
-returns c = ((omega arith, λ z low high. absurd (omega arith)), λ same. rw (← c .before .before .before .before .before .fill-rooms .ensures .0) (c .if1 .taken))
+returns c = ((omega arith, λ z low high. absurd (omega arith)), λ same. rw (← c .before .before .before .before .fill-rooms .ensures .0) (c .if1 .taken))
+
+sub-all : tie.Need-sub-all
+sub-all c = omega (arith, c .before .before .before .before .before .before .fill-rooms .ensures .1 .1 .0, c .before .before .if1 .left)
 
 sub-jump : tie.Need-sub-jump
-sub-jump c = omega (arith, c .before .before .before .before .before .before .before .before .before .before .pre .4)
+sub-jump c = omega (arith, c .before .before .before .before .before .before .before .before .before .before .before .pre .4)
 
 jump-requires : tie.Need-jump-requires
 jump-requires c κs =
-    let p = c .before .before .before .before .before .before .before .before .before .before in
-    let filled = c .before .before .before .before .before .before .fill-rooms .ensures in (
-      rooms-filled _ _ (p .pre .0) _ _ (p .args .x) _ (omega (arith, p .pre .8, c .before .before .before .before .before .before .fill-rooms .kept)) (filled .1 .0),
-      omega (arith, sum-small p, filled .0),
-      filled .1 .1,
+    let p = c .before .before .before .before .before .before .before .before .before .before .before in
+    let filled = c .before .before .before .before .before .before .before .fill-rooms .ensures in (
+      rooms-filled _ _ (p .pre .0) _ _ (p .args .x) _ (omega (arith, p .pre .8, c .before .before .before .before .before .before .before .fill-rooms .kept)) (filled .1 .0),
+      omega (arith, filled .1 .1 .0, filled .1 .1 .1),
       p .pre .6,
       p .pre .7,
       omega (arith, p .pre .5),
     )
 
 add-result : tie.Need-add-result
-add-result c = omega (arith, c .jump .ensures .within, c .before .before .before .before .before .before .before .before .before .before .before .pre .4, c .before .before .before .before .before .before .before .before .before .before .before .pre .5)
+add-result c = omega (arith, c .jump .ensures .within, c .before .before .before .before .before .before .before .before .before .before .before .before .pre .4, c .before .before .before .before .before .before .before .before .before .before .before .before .pre .5)
 
 add-result-2 : tie.Need-add-result-2
-add-result-2 c = omega (arith, c .jump .ensures .within, c .before .before .before .before .before .before .before .before .before .before .before .pre .4, c .before .before .before .before .before .before .before .before .before .before .before .pre .5)
+add-result-2 c = omega (arith, c .jump .ensures .within, c .before .before .before .before .before .before .before .before .before .before .before .before .pre .4, c .before .before .before .before .before .before .before .before .before .before .before .before .pre .5)
 
 same-length-2 : tie.Need-same-length-2
 same-length-2 c = search needs
 
 returns-2 : tie.Need-returns-2
 returns-2 c =
-    let p = c .before .before .before .before .before .before .before .before .before .before .before in
-    let filled = c .before .before .before .before .before .before .before .fill-rooms .ensures in (
+    let p = c .before .before .before .before .before .before .before .before .before .before .before .before in
+    let filled = c .before .before .before .before .before .before .before .before .fill-rooms .ensures in (
       (
         omega arith,
         jump-passes _ _ (p .pre .0) _ _ (p .args .rows .settled) (p .args .processors) (p .args .own) (p .args .x) _ _ (c .jump .result) (p .pre .3) (filled .1 .0)
-            (rw (← filled .0) (omega (arith, c .before .before .if1 .left))) (rw (← filled .0)) (c .jump .ensures),
+            (rw (← filled .0) (omega (arith, c .before .before .before .before .if1 .left))) (rw (← filled .0)) (c .jump .ensures),
       ),
       λ same. absurd (omega arith),
     )
@@ -89,10 +76,10 @@ onward-spec =
     sub-cap
     add-cap
     fill-rooms-requires
-    add-sum
     mul-supply
     same-length
     returns
+    sub-all
     sub-jump
     jump-requires
     add-result

@@ -1,14 +1,13 @@
--- `term_and_room` is the least of work, share and cap, and what is left to what comes for certain.
+-- `term_and_top` is the least of work, share and cap, and what comes for certain.
 use borrow.Author.Needs.{needs}
 use native.Mathlib.Omega.{arith}
 use mathlib.Core.Path.{_∙_, ap₂}
-use Prim.Native.Nat.{_+_, _*_, _-_, _/_, _≤_, min}
+use Prim.Native.Nat.{_+_, _*_, _/_, _≤_, min}
 use denote.Ref.{now}
-use Rattle.analysis.specs.Kept.{costAt, periodAt, aheadAt, termAt, roomAt}
+use Rattle.analysis.specs.Kept.{costAt, periodAt, aheadAt, termAt, topAt}
 use Rattle.analysis.proofs.Limits.{periods-within}
-use Rattle.analysis.proofs.Exclusion.{reach-above}
-use Rattle.analysis.proofs.jumps.term_and_room.Statement.{statement}
-use Rattle.analysis.proofs.jumps.term_and_room.Tie as tie
+use Rattle.analysis.proofs.jumps.term_and_top.Statement.{statement}
+use Rattle.analysis.proofs.jumps.term_and_top.Tie as tie
 
 mul-own : tie.Need-mul-own
 mul-own c = search needs
@@ -84,20 +83,13 @@ add-lesser-2 c = let p = c .before .before .before .before .before .before .befo
 lesser-requires-3 : tie.Need-lesser-requires-3
 lesser-requires-3 c κs = search needs
 
-sub-room : tie.Need-sub-room
-sub-room c =
-    let p = c .before .before .before .before .before .before .before .before .before .before in
-    let least = c .before .before .lesser2 .ensures in
-    rw (c .lesser3 .ensures, p .pre .2 .comes) (reach-above _ _ _ _ _ (omega (arith, c .before .before .before .before .work-in-time .ensures, least)) (omega (arith, least, c .before .before .before .lesser .ensures)))
-
 returns : tie.Need-returns
-unfolding termAt roomAt
+unfolding termAt topAt
 returns c =
-    let term = c .before .before .lesser2 .ensures ∙ ap₂ min (c .before .before .before .before .work-in-time .ensures) (c .before .before .before .lesser .ensures) in
-    (term, ap₂ _-_ (c .lesser3 .ensures ∙ c .before .before .before .before .before .before .before .before .before .before .pre .2 .comes _) term)
+    (c .before .before .lesser2 .ensures ∙ ap₂ min (c .before .before .before .before .work-in-time .ensures) (c .before .before .before .lesser .ensures), c .lesser3 .ensures ∙ c .before .before .before .before .before .before .before .before .before .before .pre .2 .comes _)
 
-pub term-and-room-spec : {M : Type 1} → statement M
-term-and-room-spec =
+pub term-and-top-spec : {M : Type 1} → statement M
+term-and-top-spec =
     tie.close
     (tie.spec
     mul-own
@@ -122,5 +114,4 @@ term-and-room-spec =
     shared-slice-read-lesser
     add-lesser-2
     lesser-requires-3
-    sub-room
     returns)
