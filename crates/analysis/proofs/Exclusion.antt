@@ -19,7 +19,7 @@ use Rattle.model.specs.Interference.{carried, rtaRight}
 use Rattle.model.proofs.Interference.{rtaRight-rises}
 use Rattle.model.proofs.Rise.{carried-within, carried-rises, carried-full}
 use Rattle.analysis.specs.Inner.{reach, Rooms, Jumped}
-use Rattle.analysis.specs.Kept.{costAt, periodAt, aheadAt, shareAt, termBy, termAt, topAt, roomAt, KeptRows, keptSum, Met, Passed}
+use Rattle.analysis.specs.Kept.{costAt, periodAt, aheadAt, shareAt, termFrom, termAt, topAt, roomAt, KeptRows, keptSum, Met, Passed}
 
 -- What holds in both cases holds of what a term comes to for certain.
 pub by-period : (P : ℕ → Type 0) (c t whole share : ℕ) → (c ≡ t → P share) → P (min (whole + c) share) → P (reach c t whole share)
@@ -53,7 +53,7 @@ term-up a top work later share cap d by-work by-cap by-top shared certain =
 
 -- One row's term, its room and its later term, over plain numbers.
 pub one-rises : (c t a s x cap d : ℕ) → 1 ≤ t
-    → termBy c t a s x cap + min d (reach c t ((x + a) / t * c) s - termBy c t a s x cap) ≤ termBy c t a s (x + d) (cap + d)
+    → termFrom c t a s x cap + min d (reach c t ((x + a) / t * c) s - termFrom c t a s x cap) ≤ termFrom c t a s (x + d) (cap + d)
 one-rises c t a s x cap d some-period =
     let y = x + a in
     let later : x + d + a ≡ y + d = omega arith in

@@ -11,7 +11,7 @@ use Rattle.laws.specs.Sum.{total, unless}
 use Rattle.laws.proofs.Sum.{total-same, total-step, total-unless}
 use Rattle.model.specs.Sheet.{Sheet}
 use Rattle.model.specs.Interference.{shareOf, others, rtaTerm}
-use Rattle.analysis.specs.Kept.{costAt, periodAt, aheadAt, shareAt, riseAt, putRow, termBy, termAt, KeptNumbers, KeptRow, KeptRows, keptSum, metTerm, Met}
+use Rattle.analysis.specs.Kept.{costAt, periodAt, aheadAt, shareAt, riseAt, putRow, termFrom, termAt, KeptNumbers, KeptRow, KeptRows, keptSum, metTerm, Met}
 use Rattle.analysis.proofs.Limits.{carried-positive}
 use Rattle.analysis.proofs.Exclusion.{one-rises}
 
@@ -96,7 +96,7 @@ module _ (l : List ℕ) (p c t a s r : ℕ) where
       }
 
 -- What a row adds goes by its numbers, and so does whether it is as an allowed row.
-pub holds-term : (l : List ℕ) (j c t a s r : ℕ) → Holds l j c t a s r → (x cap : ℕ) → termAt l x cap j ≡ termBy c t a s x cap
+pub holds-term : (l : List ℕ) (j c t a s r : ℕ) → Holds l j c t a s r → (x cap : ℕ) → termAt l x cap j ≡ termFrom c t a s x cap
 unfolding termAt
 holds-term l j c t a s r row x cap = rw (row .cost, row .period, row .ahead, row .share)
 
@@ -146,7 +146,7 @@ module _ (l : List ℕ) (left c t a s r : ℕ) (rows : KeptRows l left) (place :
       }
 
   -- Counted, it adds what it adds; not counted, what is settled for it.
-  pub sum-more : (settled x cap : ℕ) → keptSum (putRow l left c t a s r) (left + 1) settled x cap ≡ keptSum l left settled x cap + termBy c t a s x cap
+  pub sum-more : (settled x cap : ℕ) → keptSum (putRow l left c t a s r) (left + 1) settled x cap ≡ keptSum l left settled x cap + termFrom c t a s x cap
   sum-more settled x cap =
       omega (
         arith,
@@ -155,16 +155,16 @@ module _ (l : List ℕ) (left c t a s r : ℕ) (rows : KeptRows l left) (place :
         holds-term _ left c t a s r (put-here l left c t a s r (rows .sized) place) x cap,
       )
 
-  pub sum-settled : (settled x cap : ℕ) → termBy c t a s x cap ≡ s
-      → keptSum (putRow l left c t a s r) left (settled + s) x cap ≡ keptSum l left settled x cap + termBy c t a s x cap
+  pub sum-settled : (settled x cap : ℕ) → termFrom c t a s x cap ≡ s
+      → keptSum (putRow l left c t a s r) left (settled + s) x cap ≡ keptSum l left settled x cap + termFrom c t a s x cap
   sum-settled settled x cap whole = omega (arith, front-sum x cap, whole)
 
 -- A share of 0 or 1 is added from the first.
-pub small-share : (c t a s x cap : ℕ) → 1 ≤ c → 1 ≤ x → 1 ≤ cap → s ≤ 1 → termBy c t a s x cap ≡ s
+pub small-share : (c t a s x cap : ℕ) → 1 ≤ c → 1 ≤ x → 1 ≤ cap → s ≤ 1 → termFrom c t a s x cap ≡ s
 small-share c t a s x cap some-cost window some-cap small = omega (arith, carried-positive c t (x + a) some-cost (omega arith))
 
 -- A row that adds its whole share adds it ever after.
-pub whole-share : (c t a s x cap d : ℕ) → 1 ≤ t → s ≤ termBy c t a s x cap → termBy c t a s (x + d) (cap + d) ≡ s
+pub whole-share : (c t a s x cap d : ℕ) → 1 ≤ t → s ≤ termFrom c t a s x cap → termFrom c t a s (x + d) (cap + d) ≡ s
 whole-share c t a s x cap d some-period whole =
     le-antisymm (omega arith) (le-trans whole (omega (arith, one-rises c t a s x cap d some-period)))
 

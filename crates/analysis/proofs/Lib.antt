@@ -8,5 +8,6 @@ pub mod ByMethod
 pub mod Question
 pub mod Steps
 pub mod Ways
+pub mod Descent
 pub mod Refinement
 pub mod Demands

@@ -29,12 +29,12 @@ unfoldable pub putRow : List ℕ → ℕ → ℕ → ℕ → ℕ → ℕ → ℕ
 putRow l j c t a s r = set (set (set (set (set l j c) (j + 64) t) (j + 128) a) (j + 192) s) (j + 256) r
 
 -- What a row with these numbers adds at X: its work, its share, or the cap, whichever is least.
-abbrev pub termBy : ℕ → ℕ → ℕ → ℕ → ℕ → ℕ → ℕ
-termBy c t a s x cap = min (carried c t (x + a)) (min s cap)
+abbrev pub termFrom : ℕ → ℕ → ℕ → ℕ → ℕ → ℕ → ℕ
+termFrom c t a s x cap = min (carried c t (x + a)) (min s cap)
 
 -- Row j's.
 unfoldable pub termAt : List ℕ → ℕ → ℕ → ℕ → ℕ
-termAt l x cap j = termBy (costAt l j) (periodAt l j) (aheadAt l j) (shareAt l j) x cap
+termAt l x cap j = termFrom (costAt l j) (periodAt l j) (aheadAt l j) (shareAt l j) x cap
 
 -- What that comes to for certain.
 unfoldable pub topAt : List ℕ → ℕ → ℕ → ℕ

@@ -1,7 +1,7 @@
 -- `jump` stays within the most; where the check fails the next length is smaller, and where it holds it is the contract.
 use borrow.Author.Needs.{needs}
-use Prim.Native.Nat.{ℕ, _+_, _*_, _-_, _/_, _≤_, _<_}
-use native.Mathlib.Nat.{mul-le-mul}
+use Prim.Native.Nat.{_+_, _-_, _/_, _≤_, _<_}
+use Rattle.analysis.proofs.Limits.{product-small}
 use Rattle.laws.proofs.Concave.{newton-falls}
 use native.Mathlib.Omega.{arith}
 use Rattle.analysis.proofs.jumps.jump.Statement.{statement}
@@ -28,10 +28,6 @@ split-rooms-requires c κs = search needs
 
 add-sure : tie.Need-add-sure Inv-loop μ-loop
 add-sure c = omega (arith, c .before .before .before .before .before .pre .1, c .before .split-rooms .ensures .1 .0)
-
--- Products of up to 64 and up to a million.
-product-small : (a b : ℕ) → a ≤ 64 → b ≤ 1_000_000 → a * b ≤ 64_000_000
-product-small a b few small = mul-le-mul few small
 
 -- How far is within a million, as the most is.
 far-small : (c : tie.After-split-rooms Inv-loop μ-loop) → c .before .loop .far ≤ 1_000_000

@@ -7,7 +7,7 @@ use Prim.Native.Nat.{ℕ, _+_, _*_, _-_, _≤_, _<_}
 use denote.Ref.{now}
 use Rattle.laws.specs.Sum.{total}
 use Rattle.laws.proofs.Sum.{total-step}
-use Rattle.analysis.specs.Kept.{costAt, periodAt, aheadAt, shareAt, riseAt, termBy, termAt, KeptRow, KeptRows, keptSum}
+use Rattle.analysis.specs.Kept.{costAt, periodAt, aheadAt, shareAt, riseAt, termFrom, termAt, KeptRow, KeptRows, keptSum}
 use Rattle.analysis.proofs.Kept.{Holds, put-other, holds-term, holds-kept, holds-through, holds-self, rows-same, rows-more, sum-more, sum-settled, whole-share}
 use Rattle.analysis.proofs.jumps.keep_pending.Statement.{statement}
 use Rattle.analysis.proofs.jumps.keep_pending.Tie as tie
@@ -48,7 +48,7 @@ kept c = holds-kept _ _ _ _ _ _ _ (stands c) (c .before .before .before .pre .0 
 -- What it adds is one more of what is passed.
 passed : (c : tie.In-loop Inv-loop μ-loop) (d : ℕ) → let p = c .before .before .before in
     let q = c .before .loop in
-    keptSum (q .others) (q .left) (q .settled) (p .args .x + d) (p .args .cap + d) + termBy (costAt (q .others) (q .next)) (periodAt (q .others) (q .next)) (aheadAt (q .others) (q .next)) (shareAt (q .others) (q .next)) (p .args .x + d) (p .args .cap + d)
+    keptSum (q .others) (q .left) (q .settled) (p .args .x + d) (p .args .cap + d) + termFrom (costAt (q .others) (q .next)) (periodAt (q .others) (q .next)) (aheadAt (q .others) (q .next)) (shareAt (q .others) (q .next)) (p .args .x + d) (p .args .cap + d)
     ≡ p .args .rows .settled + total (termAt (now (p .args .others)) (p .args .x + d) (p .args .cap + d)) (q .next + 1)
 unfolding termAt
 passed c d =
@@ -128,7 +128,7 @@ loop-less c = search needs
 settles : (c : tie.After-term-and-top Inv-loop μ-loop) → let p = c .before .before .before .before .before in
     let q = c .before .before .before .loop in
     shareAt (q .others) (q .next) ≤ c .term-and-top .result .term
-    → (d : ℕ) → termBy (costAt (q .others) (q .next)) (periodAt (q .others) (q .next)) (aheadAt (q .others) (q .next)) (shareAt (q .others) (q .next)) (p .args .x + d) (p .args .cap + d) ≡ shareAt (q .others) (q .next)
+    → (d : ℕ) → termFrom (costAt (q .others) (q .next)) (periodAt (q .others) (q .next)) (aheadAt (q .others) (q .next)) (shareAt (q .others) (q .next)) (p .args .x + d) (p .args .cap + d) ≡ shareAt (q .others) (q .next)
 unfolding termAt
 settles c whole d =
     let p = c .before .before .before .before .before in

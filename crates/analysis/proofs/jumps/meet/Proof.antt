@@ -13,7 +13,7 @@ use Rattle.model.specs.Interference.{share, work, workOf}
 use Rattle.rows.specs.Words.{rowCount, sheetOf}
 use Rattle.rows.proofs.Words.{deadline-word}
 use Rattle.rows.proofs.Checks.{sound-row}
-use Rattle.analysis.specs.Kept.{termBy, KeptNumbers, KeptRows, keptSum, metTerm}
+use Rattle.analysis.specs.Kept.{termFrom, KeptNumbers, KeptRows, keptSum, metTerm}
 use Rattle.analysis.proofs.Limits.{share-within}
 use Rattle.analysis.proofs.Sizes.{sizes}
 use Rattle.analysis.proofs.Kept.{rows-same, rows-more, sum-more, sum-settled, small-share}
@@ -120,7 +120,7 @@ gathered : (c : tie.After-rise-of Inv-loop μ-loop) (x cap : ℕ) → 1 ≤ x �
     let q = c .before .before .before .before .before .before .before .loop in
     let words = now (p .args .words) in
     let own = getD words (3 * q .place) 0 in
-    keptSum (q .others) (q .left) (q .settled) x cap + termBy own (getD words (3 * q .place + 2) 0) (getD (now (p .args .bounds)) (q .place) 0 - own) (c .before .share-in-window .result) x cap + total (metTerm (sheetOf words) (now (p .args .bounds)) (p .args .window) x cap) (p .args .from)
+    keptSum (q .others) (q .left) (q .settled) x cap + termFrom own (getD words (3 * q .place + 2) 0) (getD (now (p .args .bounds)) (q .place) 0 - own) (c .before .share-in-window .result) x cap + total (metTerm (sheetOf words) (now (p .args .bounds)) (p .args .window) x cap) (p .args .from)
     ≡ keptSum (now (p .args .others)) (p .args .before .left) (p .args .before .settled) x cap + total (metTerm (sheetOf words) (now (p .args .bounds)) (p .args .window) x cap) (q .place + 1)
 unfolding metTerm workOf work sheetOf triples
 gathered c x cap window some-cap =
@@ -131,7 +131,7 @@ gathered c x cap window some-cap =
     let bound = getD (now (p .args .bounds)) (q .place) 0 in
     let known = sizes _ _ (p .pre .0) (q .place) (inside (c .before .before .before .before .before .before)) in
     let time : x + (bound - own) ≡ x + bound - own = omega (arith, known .from-cost) in
-    let term : termBy own (getD words (3 * q .place + 2) 0) (bound - own) (c .before .share-in-window .result) x cap ≡ metTerm (sheetOf words) (now (p .args .bounds)) (p .args .window) x cap (q .place) =
+    let term : termFrom own (getD words (3 * q .place + 2) 0) (bound - own) (c .before .share-in-window .result) x cap ≡ metTerm (sheetOf words) (now (p .args .bounds)) (p .args .window) x cap (q .place) =
     rw (time, c .before .share-in-window .ensures) in
     omega (arith, q .inv .4 x cap window some-cap, total-step (metTerm (sheetOf words) (now (p .args .bounds)) (p .args .window) x cap) (q .place), term)
 

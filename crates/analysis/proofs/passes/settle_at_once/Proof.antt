@@ -14,7 +14,7 @@ use Rattle.rows.proofs.Words.{sheet-rows}
 use Rattle.analysis.specs.Refinement.{askOf}
 use Rattle.analysis.specs.Inner.{Ready, boundsSum}
 use Rattle.analysis.proofs.Steps.{ask-regular, pass-on, reached, sum-lower}
-use Rattle.analysis.proofs.Ways.{descended-ready}
+use Rattle.analysis.proofs.Descent.{descended-ready}
 use Rattle.analysis.proofs.passes.settle_at_once.Statement.{statement}
 use Rattle.analysis.proofs.passes.settle_at_once.Tie as tie
 

@@ -5,7 +5,7 @@ use mathlib.Core.Path.{_∙_, sym}
 use Rattle.analysis.specs.Ray.{Descended}
 use Rattle.analysis.specs.Refinement.{askOf}
 use Rattle.analysis.proofs.Steps.{ask-regular}
-use Rattle.analysis.proofs.Ways.{descended-none, descended-more, descended-length, descended-ready}
+use Rattle.analysis.proofs.Descent.{descended-none, descended-more, descended-length, descended-ready}
 use Rattle.analysis.proofs.ray.descend.Statement.{statement}
 use Rattle.analysis.proofs.ray.descend.Tie as tie
 

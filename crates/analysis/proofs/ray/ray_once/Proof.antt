@@ -1,7 +1,7 @@
 -- `ray_once` makes the steps that the pass found to be allowed.
 use mathlib.Core.Path.{_∙_, sym}
 use native.Mathlib.Nat.{le-trans, le-of-eq}
-use Rattle.analysis.proofs.Ways.{lowered-small, lowered-down}
+use Rattle.analysis.proofs.Descent.{lowered-small, lowered-down}
 use borrow.Author.Needs.{needs}
 use Rattle.analysis.proofs.ray.ray_once.Statement.{statement}
 use Rattle.analysis.proofs.ray.ray_once.Tie as tie

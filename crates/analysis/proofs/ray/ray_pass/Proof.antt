@@ -12,7 +12,7 @@ use Rattle.rows.specs.Words.{sheetOf}
 use Rattle.rows.proofs.Words.{sheet-rows}
 use Rattle.analysis.specs.Refinement.{askOf}
 use Rattle.analysis.proofs.Steps.{ask-regular}
-use Rattle.analysis.proofs.Ways.{on-way, ray-lost, ray-done, ray-lowered, ray-stayed}
+use Rattle.analysis.proofs.Descent.{on-way, ray-lost, ray-done, ray-lowered, ray-stayed}
 use Rattle.analysis.proofs.ray.ray_pass.Statement.{statement}
 use Rattle.analysis.proofs.ray.ray_pass.Tie as tie
 

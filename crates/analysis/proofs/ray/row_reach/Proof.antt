@@ -9,7 +9,8 @@ use Rattle.rows.specs.Words.{sheetOf}
 use Rattle.rows.proofs.Words.{cost-word, deadline-word, sheet-rows}
 use Rattle.rows.proofs.Checks.{sound-row}
 use Rattle.analysis.specs.Ray.{Aimed}
-use Rattle.analysis.proofs.Ways.{product-small, reaches}
+use Rattle.analysis.proofs.Limits.{product-small}
+use Rattle.analysis.proofs.Ways.{reaches}
 use borrow.Author.Needs.{needs}
 use Rattle.analysis.proofs.ray.row_reach.Statement.{statement}
 use Rattle.analysis.proofs.ray.row_reach.Tie as tie
