@@ -3,7 +3,7 @@ use mathlib.Core.Path.{_≡_, ap}
 use mathlib.Core.List.{List, _++_}
 use mathlib.Core.Logic.{⊎-elim}
 use Prim.Native.Nat.{ℕ, _+_, _*_, _-_, _/_, _≤_, _<_, min}
-use native.Mathlib.Nat.{le-trans, le-min, le-div-iff-mul-le, div-lt-iff-lt-mul, mul-comm, eq-or-lt-of-le}
+use native.Mathlib.Nat.{le-trans, le-min, le-refl, le-div-iff-mul-le, mul-comm, eq-or-lt-of-le}
 use native.Mathlib.Decide.{ℕ-discrete}
 use native.Mathlib.Omega.{arith}
 use borrow.Author.Tests.{eq-eqb, ne-eqb}
@@ -19,6 +19,7 @@ use Rattle.model.specs.Interference.{carried, rtaRight}
 use Rattle.model.proofs.Interference.{rtaRight-rises}
 use Rattle.model.proofs.Rise.{carried-within, carried-rises, carried-full}
 use Rattle.analysis.specs.Inner.{reach, Rooms, Jumped}
+use Rattle.analysis.proofs.Limits.{not-passed}
 use Rattle.analysis.specs.Kept.{costAt, periodAt, aheadAt, shareAt, termFrom, termAt, topAt, roomAt, KeptRows, keptSum, Met, Passed}
 
 -- What holds in both cases holds of what a term comes to for certain.
@@ -126,10 +127,7 @@ module _ (s : Sheet) (R l : List ℕ) (row left settled x m : ℕ) (met : Met s 
 
   -- X stands where they do not fill m times the cap.
   pub right-stands : (own : ℕ) → own ≡ s .cost row → own ≤ x → keptSum l left settled x (x - own + 1) < m * (x - own + 1) → rtaRight s m row R x ≤ x
-  right-stands own is-cost from short =
-      let cap = x - s .cost row + 1 in
-      let quotient : keptSum l left settled x cap / m < cap = div-lt-iff-lt-mul some-processor .1 (rw (mul-comm cap m) (rw is-cost at short)) in
-      omega (arith, right-from x (omega arith))
+  right-stands own is-cost from short = rw (right-from x (le-refl x)) (not-passed m (s .cost row) x _ some-processor (omega arith) (rw is-cost at short))
 
   -- What is passed is below its value.
   right-above : (next : ℕ) → s .cost row ≤ x → Passed l left settled m (s .cost row) x next → (z : ℕ) → x ≤ z → z < next → z < rtaRight s m row R z

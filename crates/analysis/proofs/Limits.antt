@@ -2,7 +2,7 @@
 use mathlib.Core.Path.{_≡_, refl}
 use mathlib.Core.List.{List}
 use Prim.Native.Nat.{ℕ, zero, suc, _+_, _*_, _-_, _/_, _≤_, _<_, min}
-use native.Mathlib.Nat.{le-trans, mul-le-mul, mul-le-mul-left, div-mul-le-self, div-add-mod', zero-mul, suc-mul}
+use native.Mathlib.Nat.{le-trans, mul-le-mul, mul-le-mul-left, mul-comm, div-lt-iff-lt-mul, div-mul-le-self, div-add-mod', zero-mul, suc-mul}
 use native.Mathlib.Omega.{arith}
 use lib.ListN.{getD}
 use Rattle.model.specs.Sheet.{Sheet}
@@ -23,6 +23,12 @@ share-within c d t r w h = omega (arith, mul-le-mul-left (w / t) h, div-add-mod'
 -- Processors times a time stay within 64 millions.
 pub product-small : (m x : ℕ) → m ≤ 64 → x ≤ 1_000_000 → m * x ≤ 64_000_000
 product-small m x few small = mul-le-mul few small
+
+-- A sum below m · (X − C + 1) does not pass X.
+pub not-passed : (m cost x sum : ℕ) → 1 ≤ m → cost ≤ x → sum < m * (x - cost + 1) → cost + sum / m ≤ x
+not-passed m cost x sum positive from below =
+    let few : sum / m < x - cost + 1 = div-lt-iff-lt-mul positive .1 (rw (mul-comm (x - cost + 1) m) below) in
+    omega arith
 
 -- Each bound that is ready lies from its row's cost to its deadline.
 pub bound-in-range : (words R : List ℕ) → Ready words R → (i : ℕ) → i < rowCount words

@@ -3,7 +3,7 @@ use mathlib.Core.Path.{_≡_, refl, sym, _∙_, ap}
 use mathlib.Core.List.{List}
 use mathlib.Core.Option.{some}
 use Prim.Native.Nat.{ℕ, _+_, _*_, _-_, _/_, _≤_, _<_, min, zero-le}
-use native.Mathlib.Nat.{le-trans, le-refl, le-of-eq, mul-le-mul, mul-add, mul-zero, mul-comm, mul-left-comm, div-mul-le-self, div-lt-iff-lt-mul}
+use native.Mathlib.Nat.{le-trans, le-refl, le-of-eq, mul-le-mul, mul-add, mul-zero, mul-left-comm, div-mul-le-self}
 use native.Mathlib.Omega.{arith}
 use lib.ListN.{getD}
 use Rattle.laws.proofs.Fill.{listed-at}
@@ -24,6 +24,7 @@ use Rattle.rows.specs.Words.{rowCount, sheetOf}
 use Rattle.rows.proofs.Words.{sheet-rows}
 use Rattle.analysis.specs.Ray.{termBy, capBy, stepTo, termAlong, capAlong, addedAlong, sumAlong, Lies, OnWay, Aimed, SmallLine, SumLine, StaysBelow, Reaches}
 use Rattle.analysis.specs.Refinement.{askOf}
+use Rattle.analysis.proofs.Limits.{not-passed}
 
 -- A line lies over anything smaller.
 pub lies-smaller : (f g : ℕ → ℕ) (most value slope limit : ℕ) → ((t : ℕ) → t < most → g t ≤ f t) → Lies f most value slope limit
@@ -112,12 +113,6 @@ unfolding turn
 turn-below method s m k R x from within stays =
     better-orElse (answer method s m k R) (some x) (s .deadline k) (answer-below method s m k R x from within stays)
     (λ y found. answer-within s m k R method y found .1)
-
--- A sum below m · (X − C + 1) does not pass X.
-not-passed : (m cost x sum : ℕ) → 1 ≤ m → cost ≤ x → sum < m * (x - cost + 1) → cost + sum / m ≤ x
-not-passed m cost x sum positive from below =
-    let few : sum / m < x - cost + 1 = div-lt-iff-lt-mul positive .1 (rw (mul-comm (x - cost + 1) m) below) in
-    omega arith
 
 -- What stays below the room at the start, less what the room has fallen, stays below the room left.
 room-left : (m left t fall sum room : ℕ) → left + t * fall ≡ room → sum + t * (m * fall) < m * room → sum < m * left
