@@ -1,7 +1,7 @@
 -- A list of rows: what is written down stands there, what is settled for one that adds its whole share is the same ever after.
 use mathlib.Core.Path.{_≡_, refl, _∙_}
 use mathlib.Core.List.{List}
-use Prim.Native.Nat.{ℕ, _+_, _*_, _-_, _≤_, _<_}
+use Prim.Native.Nat.{ℕ, _+_, _-_, _≤_, _<_}
 use native.Mathlib.Nat.{le-antisymm, le-trans}
 use native.Mathlib.Omega.{arith}
 use lib.ListN.{length, getD, set, length-set}
@@ -11,7 +11,7 @@ use Rattle.laws.specs.Sum.{total, unless}
 use Rattle.laws.proofs.Sum.{total-same, total-step, total-unless}
 use Rattle.model.specs.Sheet.{Sheet}
 use Rattle.model.specs.Interference.{shareOf, others, rtaTerm}
-use Rattle.analysis.specs.Kept.{costAt, periodAt, aheadAt, shareAt, riseAt, putRow, termFrom, termAt, KeptNumbers, KeptRow, KeptRows, keptSum, metTerm, Met}
+use Rattle.analysis.specs.Kept.{costAt, periodAt, aheadAt, shareAt, riseAt, putRow, termFrom, termAt, KeptNumbers, KeptRow, KeptRows, Kept, keptSum, metTerm, Met}
 use Rattle.analysis.proofs.Limits.{carried-positive}
 use Rattle.analysis.proofs.Exclusion.{one-rises}
 
@@ -182,14 +182,13 @@ met-all s R row window count z first all inside is-count is-window before behind
 
 -- Rows that add the same from X on are met at X and at every number above it.
 pub met-kept : (s : Sheet) (R l now : List ℕ) (row left settled stay full own x y : ℕ) → Met s R l row left settled x → own ≡ s .cost row → own ≤ x → x ≤ y
-    → KeptRows now stay → stay ≤ left → full + stay * 1_000_000 ≤ 64_000_000
+    → Kept now stay full × (stay ≤ left)
     → ((d : ℕ) → keptSum now stay full (x + d) (x - own + 1 + d) ≡ keptSum l left settled (x + d) (x - own + 1 + d))
     → Met s R now row stay full y
-met-kept s R l now row left settled stay full own x y met is-cost from later rows fewer small same =
+met-kept s R l now row left settled stay full own x y met is-cost from later kept same =
     record {
-      rows = rows;
-      fewer = omega (arith, met .fewer);
-      small = small;
+      kept = kept .0;
+      fewer = omega (arith, met .fewer, kept .1);
       same = λ z above.
           let there : x + (z - x) ≡ z = omega arith in
           let cap : x - own + 1 + (z - x) ≡ z - s .cost row + 1 = omega arith in

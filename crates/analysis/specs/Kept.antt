@@ -68,6 +68,18 @@ pub record KeptRows (l : List ℕ) (left : ℕ) : Type 0 where
   pub few : left ≤ 64
   pub each : (j : ℕ) → j < left → KeptRow l j
 
+-- Such rows, and what is settled for others: together small enough for every sum.
+pub record Kept (l : List ℕ) (left settled : ℕ) : Type 0 where
+  pub rows : KeptRows l left
+  pub small : settled + left * 1_000_000 ≤ 64_000_000
+
+-- A number from a row's cost to its deadline.
+pub record Tried (own top x : ℕ) : Type 0 where
+  pub some-cost : 1 ≤ own
+  pub from-cost : own ≤ x
+  pub by-deadline : x ≤ top
+  pub small : top ≤ 1_000_000
+
 -- What is settled, and what the rows kept add at X.
 abbrev pub keptSum : List ℕ → ℕ → ℕ → ℕ → ℕ → ℕ
 keptSum l left settled x cap = settled + total (termAt l x cap) left
@@ -78,9 +90,8 @@ metTerm s R window x cap i = min (workOf s R x i) (min (share (s .cost i) (s .de
 
 -- From X on it is what all rows but one add to the right side of the RTA equation.
 pub record Met (s : Sheet) (R l : List ℕ) (row left settled x : ℕ) : Type 0 where
-  pub rows : KeptRows l left
+  pub kept : Kept l left settled
   pub fewer : left ≤ s .rows
-  pub small : settled + left * 1_000_000 ≤ 64_000_000
   pub same : (z : ℕ) → x ≤ z → keptSum l left settled z (z - s .cost row + 1) ≡ others s row (rtaTerm s row R z)
 
 -- No number from x to below next solves the equation: what is added fills m times the cap.

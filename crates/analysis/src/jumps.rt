@@ -15,7 +15,7 @@ ghost use Rattle.laws.specs.Fill.{listed};
 ghost use Rattle.model.specs.Answer.{rtaAnswer};
 ghost use Rattle.rows.specs.Words.{rowCount, sheetOf, foundOf};
 ghost use Rattle.analysis.specs.Inner.{Ready, boundOr, reach, Rooms, Jumped};
-ghost use Rattle.analysis.specs.Kept.{KeptRow, KeptRows, putRow, termAt, topAt, roomAt, lineAt, keptSum, metTerm, Met, Passed};
+ghost use Rattle.analysis.specs.Kept.{KeptRow, KeptRows, Kept, Tried, putRow, termAt, topAt, roomAt, lineAt, keptSum, metTerm, Met, Passed};
 
 // What other rows add at X, and what that comes to for certain, one a step each.
 pub(crate) struct Rise {
@@ -152,9 +152,8 @@ pub(crate) fn meet_others(
 
 // Leaves out the rows that add their whole share at X: they add no more above it. What is kept moves to the front.
 pub(crate) fn keep_pending(others: &mut [u32], rows: Pending, x: u32, cap: u32) -> Pending
-    requires { ⌜ KeptRows (now others) (rows .left) × ((rows .settled) + (rows .left) * 1_000_000 ≤ 64_000_000) × (x ≤ 1_000_000) ⌝ }
-    ensures rows { λ r. ⌜ KeptRows (now (others .exit)) (r .left) ⌝ }
-    ensures few { λ r. ⌜ ((r .left) ≤ (rows .left)) × ((r .settled) + (r .left) * 1_000_000 ≤ 64_000_000) ⌝ }
+    requires { ⌜ Kept (now others) (rows .left) (rows .settled) × (x ≤ 1_000_000) ⌝ }
+    ensures kept { λ r. ⌜ Kept (now (others .exit)) (r .left) (r .settled) × ((r .left) ≤ (rows .left)) ⌝ }
     ensures sums { λ r. ⌜ ((d : ℕ) → keptSum (now (others .exit)) (r .left) (r .settled) (x + d) (cap + d) ≡ keptSum (now (others .entry)) (rows .left) (rows .settled) (x + d) (cap + d)) ⌝ }
 {
     let all = rows.left;
@@ -186,7 +185,7 @@ pub(crate) fn keep_pending(others: &mut [u32], rows: Pending, x: u32, cap: u32) 
 // What is settled and what the rows kept add at X, and what that comes to for certain; the room of each between the two is written to the
 // lent words.
 pub(crate) fn fill_rooms(others: &[u32], rows: Pending, x: u32, cap: u32, room: &mut [u32]) -> Rise
-    requires { ⌜ KeptRows (now others) (rows .left) × ((rows .settled) + (rows .left) * 1_000_000 ≤ 64_000_000) × (x ≤ 1_000_000) × ((rows .left) ≤ length (now room)) ⌝ }
+    requires { ⌜ Kept (now others) (rows .left) (rows .settled) × (x ≤ 1_000_000) × ((rows .left) ≤ length (now room)) ⌝ }
     ensures summed { λ r. ⌜ (r .term) ≡ keptSum (now (others .entry)) (rows .left) (rows .settled) x cap ⌝ }
     ensures filled { λ r. ⌜ now (room .exit) ≡ listed (roomAt (now (others .entry)) x cap) (rows .left) ++ drop (rows .left) (now (room .entry)) ⌝ }
     ensures small { λ r. ⌜ ((r .term) ≤ (r .top)) × ((r .top) ≤ 64_000_000) ⌝ }
@@ -288,7 +287,7 @@ pub(crate) fn line_excludes(
     x: u32,
     cap: u32,
 ) -> bool
-    requires { ⌜ KeptRows (now others) (rows .left) × ((rows .settled) ≤ 64_000_000) × (processors ≤ 64) × (x ≤ 1_000_000) × (cap ≤ 1_000_000) ⌝ }
+    requires { ⌜ Kept (now others) (rows .left) (rows .settled) × (processors ≤ 64) × (x ≤ 1_000_000) × (cap ≤ 1_000_000) ⌝ }
     ensures { λ r. ⌜ r ≡ leb (4_294_967_296 * (processors * cap)) (4_294_967_296 * (rows .settled) + total (lineAt (now (others .entry)) x cap) (rows .left)) ⌝ }
 {
     let sum = line_sum(others, rows.left, x, cap);
@@ -305,7 +304,7 @@ pub(crate) fn far_from(
     processors: u32,
     x: u32,
 ) -> u32
-    requires { ⌜ KeptRows (now others) (rows .left) × ((rows .settled) ≤ 64_000_000) × (1 ≤ own) × (own ≤ x) × (x ≤ top) × (top ≤ 1_000_000) × (processors ≤ 64) ⌝ }
+    requires { ⌜ Kept (now others) (rows .left) (rows .settled) × Tried own top x × (processors ≤ 64) ⌝ }
     ensures { λ r. ⌜ (x ≤ r) × (r ≤ top) × Passed (now (others .entry)) (rows .left) (rows .settled) processors own x r ⌝ }
 {
     let cap = x - own + 1;
@@ -332,9 +331,8 @@ pub(crate) fn leap_far(
     x: u32,
     step: u32,
 ) -> Leap
-    requires { ⌜ KeptRows (now others) (rows .left) × ((rows .settled) + (rows .left) * 1_000_000 ≤ 64_000_000) × (1 ≤ own) × (own ≤ x) × (x ≤ top) × (top ≤ 1_000_000) × (processors ≤ 64) ⌝ }
-    ensures rows { λ r. ⌜ KeptRows (now (others .exit)) (r .left) ⌝ }
-    ensures few { λ r. ⌜ ((r .left) ≤ (rows .left)) × ((r .settled) + (r .left) * 1_000_000 ≤ 64_000_000) ⌝ }
+    requires { ⌜ Kept (now others) (rows .left) (rows .settled) × Tried own top x × (processors ≤ 64) ⌝ }
+    ensures kept { λ r. ⌜ Kept (now (others .exit)) (r .left) (r .settled) × ((r .left) ≤ (rows .left)) ⌝ }
     ensures sums { λ r. ⌜ ((d : ℕ) → keptSum (now (others .exit)) (r .left) (r .settled) (x + d) (x - own + 1 + d) ≡ keptSum (now (others .entry)) (rows .left) (rows .settled) (x + d) (x - own + 1 + d)) ⌝ }
     ensures goes { λ r. ⌜ (x ≤ r .x) × ((r .x) ≤ top) × Passed (now (others .exit)) (r .left) (r .settled) processors own x (r .x) ⌝ }
 {
@@ -365,7 +363,7 @@ pub(crate) fn onward(
     x: u32,
     room: &mut [u32],
 ) -> u32
-    requires { ⌜ KeptRows (now others) (rows .left) × ((rows .settled) + (rows .left) * 1_000_000 ≤ 64_000_000) × (1 ≤ own) × (own ≤ x) × (x ≤ top) × (top ≤ 1_000_000) × (1 ≤ processors) × (processors ≤ 64) × ((rows .left) ≤ length (now room)) ⌝ }
+    requires { ⌜ Kept (now others) (rows .left) (rows .settled) × Tried own top x × (1 ≤ processors) × (processors ≤ 64) × ((rows .left) ≤ length (now room)) ⌝ }
     ensures goes { λ r. ⌜ (x ≤ r) × Passed (now (others .entry)) (rows .left) (rows .settled) processors own x r ⌝ }
     ensures stands { λ r. ⌜ (r ≡ x → keptSum (now (others .entry)) (rows .left) (rows .settled) x (x - own + 1) < processors * (x - own + 1)) ⌝ }
 {

@@ -1,5 +1,4 @@
 -- `far_from` stays, or goes to a number at which, as at the present one, the lines exclude. What it tries is halved each time.
-use borrow.Author.Needs.{needs}
 use native.Mathlib.Omega.{arith}
 use mathlib.Core.Path.{sym, _∙_}
 use Prim.Native.Nat.{_-_, _≤_}
@@ -16,34 +15,34 @@ abbrev μ-loop : tie.MeasureT-loop
 μ-loop others rows own top processors x cap far₀ far = far
 
 sub-cap : tie.Need-sub-cap Inv-loop μ-loop
-sub-cap c = search needs
+sub-cap c = omega (arith, c .before .pre .1 .from-cost)
 
 add-cap : tie.Need-add-cap Inv-loop μ-loop
-add-cap c = omega (arith, c .before .pre .4, c .before .pre .5)
+add-cap c = let tried = c .before .pre .1 in omega (arith, tried .by-deadline, tried .small)
 
 line-excludes-requires : tie.Need-line-excludes-requires Inv-loop μ-loop
-line-excludes-requires c κs = let p = c .before in (p .pre .0, p .pre .1, p .pre .6, omega (arith, p .pre .4, p .pre .5), omega (arith, p .pre .2, p .pre .3, p .pre .4, p .pre .5))
+line-excludes-requires c κs = let p = c .before in let tried = p .pre .1 in (p .pre .0, p .pre .2, omega (arith, tried .by-deadline, tried .small), omega (arith, tried .some-cost, tried .from-cost, tried .by-deadline, tried .small))
 
 returns : tie.Need-returns Inv-loop μ-loop
-returns c = (omega arith, c .before .before .before .pre .4, λ z low high. absurd (omega arith))
+returns c = (omega arith, c .before .before .before .pre .1 .by-deadline, λ z low high. absurd (omega arith))
 
 sub-far : tie.Need-sub-far Inv-loop μ-loop
-sub-far c = omega (arith, c .before .before .before .pre .4)
+sub-far c = omega (arith, c .before .before .before .pre .1 .by-deadline)
 
 loop-holds : tie.Need-loop-holds Inv-loop μ-loop
 loop-holds c = omega arith
 
 add-line-excludes : tie.Need-add-line-excludes Inv-loop μ-loop
-add-line-excludes c = omega (arith, c .before .loop .inv, c .before .before .before .before .before .pre .4, c .before .before .before .before .before .pre .5)
+add-line-excludes c = let tried = c .before .before .before .before .before .pre .1 in omega (arith, c .before .loop .inv, tried .by-deadline, tried .small)
 
 add-line-excludes-2 : tie.Need-add-line-excludes-2 Inv-loop μ-loop
-add-line-excludes-2 c = omega (arith, c .before .loop .inv, c .before .before .before .before .before .pre .4, c .before .before .before .before .before .pre .5)
+add-line-excludes-2 c = let tried = c .before .before .before .before .before .pre .1 in omega (arith, c .before .loop .inv, tried .by-deadline, tried .small)
 
 line-excludes-requires-2 : tie.Need-line-excludes-requires-2 Inv-loop μ-loop
-line-excludes-requires-2 c κs = let p = c .before .before .before .before .before in let q = c .before .loop in (p .pre .0, p .pre .1, p .pre .6, omega (arith, q .inv, p .pre .4, p .pre .5), omega (arith, q .inv, p .pre .2, p .pre .3, p .pre .4, p .pre .5))
+line-excludes-requires-2 c κs = let p = c .before .before .before .before .before in let tried = p .pre .1 in let q = c .before .loop in (p .pre .0, p .pre .2, omega (arith, q .inv, tried .by-deadline, tried .small), omega (arith, q .inv, tried .some-cost, tried .from-cost, tried .by-deadline, tried .small))
 
 add-result : tie.Need-add-result Inv-loop μ-loop
-add-result c = omega (arith, c .before .before .before .loop .inv, c .before .before .before .before .before .before .before .pre .4, c .before .before .before .before .before .before .before .pre .5)
+add-result c = let tried = c .before .before .before .before .before .before .before .pre .1 in omega (arith, c .before .before .before .loop .inv, tried .by-deadline, tried .small)
 
 returns-2 : tie.Need-returns-2 Inv-loop μ-loop
 returns-2 c =
@@ -52,8 +51,8 @@ returns-2 c =
     let here = sym (c .before .before .before .before .before .line-excludes .ensures) ∙ not-false _ (c .before .before .before .before .if1 .left) in
     let there = sym (c .before .line-excludes2 .ensures) ∙ c .if2 .taken in (
       omega arith,
-      omega (arith, q .inv, p .pre .4),
-      chord-passes _ _ (p .pre .0) _ _ (p .args .own) (p .args .x) (q .far) (p .pre .3) (leb-true _ _ here) (leb-true _ _ there),
+      omega (arith, q .inv, p .pre .1 .by-deadline),
+      chord-passes _ _ (p .pre .0 .rows) _ _ (p .args .own) (p .args .x) (q .far) (p .pre .1 .from-cost) (leb-true _ _ here) (leb-true _ _ there),
     )
 
 loop-less : tie.Need-loop-less Inv-loop μ-loop
@@ -63,7 +62,7 @@ loop-again : tie.Need-loop-again Inv-loop μ-loop
 loop-again c = omega (arith, c .before .before .before .loop .inv)
 
 returns-3 : tie.Need-returns-3 Inv-loop μ-loop
-returns-3 c = (omega arith, c .before .before .before .before .before .pre .4, λ z low high. absurd (omega arith))
+returns-3 c = (omega arith, c .before .before .before .before .before .pre .1 .by-deadline, λ z low high. absurd (omega arith))
 
 pub far-from-spec : {M : Type 1} → statement M
 far-from-spec =

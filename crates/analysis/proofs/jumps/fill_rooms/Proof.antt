@@ -32,7 +32,7 @@ unfolding total
 loop-holds c = (omega arith, refl, listed-none _ _, omega arith, omega arith, omega arith)
 
 term-and-top-requires : tie.Need-term-and-top-requires Inv-loop μ-loop
-term-and-top-requires c κs = let p = c .before .before .before .before in let q = c .before .loop in (p .pre .0 .sized, omega (arith, p .pre .0 .few), p .pre .0 .each (q .next) (omega arith), p .pre .2)
+term-and-top-requires c κs = let p = c .before .before .before .before in let q = c .before .loop in (p .pre .0 .rows .sized, omega (arith, p .pre .0 .rows .few), p .pre .0 .rows .each (q .next) (omega arith), p .pre .1)
 
 -- What a turn of the loop adds.
 tops : (c : tie.After-term-and-top Inv-loop μ-loop) → (c .term-and-top .result .term ≤ c .term-and-top .result .top) × (c .term-and-top .result .top ≤ 1_000_000)
@@ -40,13 +40,13 @@ tops c =
     let p = c .before .before .before .before .before in
     let q = c .before .before .loop in
     rw (c .term-and-top .ensures .0, c .term-and-top .ensures .1)
-    (term-within _ _ (p .pre .0) (q .next) (p .args .x) (p .args .cap) (omega arith), top-small _ _ (p .pre .0) (q .next) (p .args .x) (omega arith))
+    (term-within _ _ (p .pre .0 .rows) (q .next) (p .args .x) (p .args .cap) (omega arith), top-small _ _ (p .pre .0 .rows) (q .next) (p .args .x) (omega arith))
 
 add-sum : tie.Need-add-sum Inv-loop μ-loop
-add-sum c = let p = c .before .before .before .before .before .before in let here = tops (c .before) in omega (arith, p .pre .1, here .0, here .1)
+add-sum c = let p = c .before .before .before .before .before .before in let here = tops (c .before) in omega (arith, p .pre .0 .small, here .0, here .1)
 
 add-tops : tie.Need-add-tops Inv-loop μ-loop
-add-tops c = let p = c .before .before .before .before .before .before .before in omega (arith, p .pre .1, tops (c .before .before) .1)
+add-tops c = let p = c .before .before .before .before .before .before .before in omega (arith, p .pre .0 .small, tops (c .before .before) .1)
 
 sub-room : tie.Need-sub-room Inv-loop μ-loop
 sub-room c = tops (c .before .before .before) .0
@@ -58,7 +58,7 @@ mul-room : tie.Need-mul-room Inv-loop μ-loop
 mul-room c = search needs
 
 slice-write-room : tie.Need-slice-write-room Inv-loop μ-loop
-slice-write-room c = omega (arith, c .before .before .before .before .before .before .before .before .pre .3, c .before .before .before .before .before .loop .inv .1)
+slice-write-room c = omega (arith, c .before .before .before .before .before .before .before .before .pre .2, c .before .before .before .before .before .loop .inv .1)
 
 add-next : tie.Need-add-next Inv-loop μ-loop
 add-next c = search needs
@@ -75,7 +75,7 @@ loop-again c =
     let within = tops (c .before .before .before) in (
       omega arith,
       length-set (q .room) (q .next) (here .result .top - here .result .term) ∙ q .inv .1,
-      listed-more (roomAt (now (p .args .others)) (p .args .x) (p .args .cap)) (q .next) (now (p .args .room)) (q .room) (here .result .top - here .result .term) (omega (arith, p .pre .3)) (q .inv .2)
+      listed-more (roomAt (now (p .args .others)) (p .args .x) (p .args .cap)) (q .next) (now (p .args .room)) (q .room) (here .result .top - here .result .term) (omega (arith, p .pre .2)) (q .inv .2)
           (ap₂ _-_ (here .ensures .1) (here .ensures .0)),
       omega (arith, here .ensures .0, total-step (termAt (now (p .args .others)) (p .args .x) (p .args .cap)) (q .next), q .inv .3),
       omega (arith, within .0, q .inv .4),
@@ -93,7 +93,7 @@ returns c =
       q .inv .3 ∙ ap (λ (n : ℕ). keptSum (now (p .args .others)) n (p .args .rows .settled) (p .args .x) (p .args .cap)) done,
       (
         q .inv .2 ∙ ap (λ (n : ℕ). listed (roomAt (now (p .args .others)) (p .args .x) (p .args .cap)) n ++ drop n (now (p .args .room))) done,
-        (q .inv .4, omega (arith, q .inv .5, p .pre .1)),
+        (q .inv .4, omega (arith, q .inv .5, p .pre .0 .small)),
       ),
     )
 

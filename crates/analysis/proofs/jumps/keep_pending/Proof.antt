@@ -30,8 +30,8 @@ loop-holds c =
     let p = c .before in (
       omega arith,
       omega arith,
-      record { sized = p .pre .0 .sized; few = omega arith; each = λ j h. absurd (omega arith) },
-      omega (arith, p .pre .1),
+      record { sized = p .pre .0 .rows .sized; few = omega arith; each = λ j h. absurd (omega arith) },
+      omega (arith, p .pre .0 .small),
       λ j from place. holds-self _ j,
       λ d. refl,
     )
@@ -40,10 +40,10 @@ loop-holds c =
 stands : (c : tie.In-loop Inv-loop μ-loop) → let l = now (c .before .before .before .args .others) in
     let q = c .before .loop in
     Holds (q .others) (q .next) (costAt l (q .next)) (periodAt l (q .next)) (aheadAt l (q .next)) (shareAt l (q .next)) (riseAt l (q .next))
-stands c = c .before .loop .inv .4 (c .before .loop .next) (omega arith) (omega (arith, c .before .before .before .pre .0 .few))
+stands c = c .before .loop .inv .4 (c .before .loop .next) (omega arith) (omega (arith, c .before .before .before .pre .0 .rows .few))
 
 kept : (c : tie.In-loop Inv-loop μ-loop) → KeptRow (c .before .loop .others) (c .before .loop .next)
-kept c = holds-kept _ _ _ _ _ _ _ (stands c) (c .before .before .before .pre .0 .each (c .before .loop .next) (omega arith))
+kept c = holds-kept _ _ _ _ _ _ _ (stands c) (c .before .before .before .pre .0 .rows .each (c .before .loop .next) (omega arith))
 
 -- What it adds is one more of what is passed.
 passed : (c : tie.In-loop Inv-loop μ-loop) (d : ℕ) → let p = c .before .before .before in
@@ -62,7 +62,7 @@ passed c d =
     )
 
 term-and-top-requires : tie.Need-term-and-top-requires Inv-loop μ-loop
-term-and-top-requires c κs = let q = c .before .before .loop in (q .inv .2 .sized, omega (arith, c .before .before .before .before .pre .0 .few), kept (c .before), c .before .before .before .before .pre .2)
+term-and-top-requires c κs = let q = c .before .before .loop in (q .inv .2 .sized, omega (arith, c .before .before .before .before .pre .0 .rows .few), kept (c .before), c .before .before .before .before .pre .1)
 
 cast-at : tie.Need-cast-at Inv-loop μ-loop
 cast-at c = search needs
@@ -71,7 +71,7 @@ mul-own : tie.Need-mul-own Inv-loop μ-loop
 mul-own c = search needs
 
 slice-read-own : tie.Need-slice-read-own Inv-loop μ-loop
-slice-read-own c = omega (arith, c .before .before .before .before .loop .inv .2 .sized, c .before .before .before .before .before .before .pre .0 .few)
+slice-read-own c = omega (arith, c .before .before .before .before .loop .inv .2 .sized, c .before .before .before .before .before .before .pre .0 .rows .few)
 
 add-period : tie.Need-add-period Inv-loop μ-loop
 add-period c = search needs
@@ -80,7 +80,7 @@ mul-period : tie.Need-mul-period Inv-loop μ-loop
 mul-period c = search needs
 
 slice-read-period : tie.Need-slice-read-period Inv-loop μ-loop
-slice-read-period c = omega (arith, c .before .before .before .before .before .loop .inv .2 .sized, c .before .before .before .before .before .before .before .pre .0 .few)
+slice-read-period c = omega (arith, c .before .before .before .before .before .loop .inv .2 .sized, c .before .before .before .before .before .before .before .pre .0 .rows .few)
 
 add-ahead : tie.Need-add-ahead Inv-loop μ-loop
 add-ahead c = search needs
@@ -89,7 +89,7 @@ mul-ahead : tie.Need-mul-ahead Inv-loop μ-loop
 mul-ahead c = search needs
 
 slice-read-ahead : tie.Need-slice-read-ahead Inv-loop μ-loop
-slice-read-ahead c = omega (arith, c .before .before .before .before .before .before .loop .inv .2 .sized, c .before .before .before .before .before .before .before .before .pre .0 .few)
+slice-read-ahead c = omega (arith, c .before .before .before .before .before .before .loop .inv .2 .sized, c .before .before .before .before .before .before .before .before .pre .0 .rows .few)
 
 add-share : tie.Need-add-share Inv-loop μ-loop
 add-share c = search needs
@@ -98,7 +98,7 @@ mul-share : tie.Need-mul-share Inv-loop μ-loop
 mul-share c = search needs
 
 slice-read-share : tie.Need-slice-read-share Inv-loop μ-loop
-slice-read-share c = omega (arith, c .before .before .before .before .before .before .before .loop .inv .2 .sized, c .before .before .before .before .before .before .before .before .before .pre .0 .few)
+slice-read-share c = omega (arith, c .before .before .before .before .before .before .before .loop .inv .2 .sized, c .before .before .before .before .before .before .before .before .before .pre .0 .rows .few)
 
 add-rise : tie.Need-add-rise Inv-loop μ-loop
 add-rise c = search needs
@@ -107,13 +107,13 @@ mul-rise : tie.Need-mul-rise Inv-loop μ-loop
 mul-rise c = search needs
 
 slice-read-rise : tie.Need-slice-read-rise Inv-loop μ-loop
-slice-read-rise c = omega (arith, c .before .before .before .before .before .before .before .before .loop .inv .2 .sized, c .before .before .before .before .before .before .before .before .before .before .pre .0 .few)
+slice-read-rise c = omega (arith, c .before .before .before .before .before .before .before .before .loop .inv .2 .sized, c .before .before .before .before .before .before .before .before .before .before .pre .0 .rows .few)
 
 put-row-requires : tie.Need-put-row-requires Inv-loop μ-loop
-put-row-requires c κs = (c .before .before .before .before .before .before .before .before .before .loop .inv .2 .sized, omega (arith, c .before .before .before .before .before .before .before .before .before .loop .inv .1, c .before .before .before .before .before .before .before .before .before .before .before .pre .0 .few))
+put-row-requires c κs = (c .before .before .before .before .before .before .before .before .before .loop .inv .2 .sized, omega (arith, c .before .before .before .before .before .before .before .before .before .loop .inv .1, c .before .before .before .before .before .before .before .before .before .before .before .pre .0 .rows .few))
 
 add-left : tie.Need-add-left Inv-loop μ-loop
-add-left c = omega (arith, c .before .before .before .before .before .before .before .before .before .before .before .before .before .before .loop .inv .1, c .before .before .before .before .before .before .before .before .before .before .before .before .before .before .before .before .pre .0 .few)
+add-left c = omega (arith, c .before .before .before .before .before .before .before .before .before .before .before .before .before .before .loop .inv .1, c .before .before .before .before .before .before .before .before .before .before .before .before .before .before .before .before .pre .0 .rows .few)
 
 add-settled : tie.Need-add-settled Inv-loop μ-loop
 add-settled c = omega (arith, c .before .before .before .before .before .before .before .before .before .before .before .before .before .before .loop .inv .3, kept (c .before .before .before .before .before .before .before .before .before .before .before .before .before) .small-share)
@@ -139,7 +139,7 @@ loop-again : tie.Need-loop-again Inv-loop μ-loop
 loop-again c =
     let q = c .before .before .before .before .before .before .before .before .before .before .before .before .before .before .loop in
     let put = c .before .before .before .before .put-row .ensures in
-    let place : q .left < 64 = omega (arith, q .inv .1, c .before .before .before .before .before .before .before .before .before .before .before .before .before .before .before .before .pre .0 .few) in
+    let place : q .left < 64 = omega (arith, q .inv .1, c .before .before .before .before .before .before .before .before .before .before .before .before .before .before .before .before .pre .0 .rows .few) in
     let row = kept (c .before .before .before .before .before .before .before .before .before .before .before .before .before) in (
       omega arith,
       ⊎-elim (λ w. omega (arith, w .2, q .inv .1)) (λ w. omega (arith, w .2, q .inv .1)) (c .if1 .came),
@@ -157,14 +157,14 @@ loop-again c =
     )
 
 same-length : tie.Need-same-length Inv-loop μ-loop
-same-length c = c .before .loop .inv .2 .sized ∙ sym (c .before .before .before .pre .0 .sized)
+same-length c = c .before .loop .inv .2 .sized ∙ sym (c .before .before .before .pre .0 .rows .sized)
 
 returns : tie.Need-returns Inv-loop μ-loop
 returns c =
     let p = c .before .before .before in
     let q = c .before .loop in
     let done : q .next ≡ p .args .rows .left = omega arith in
-    (q .inv .2, ((omega (arith, q .inv .1), omega (arith, q .inv .3)), λ d. rw (← done) (q .inv .5 d)))
+    ((record { rows = q .inv .2; small = omega (arith, q .inv .3) }, omega (arith, q .inv .1)), λ d. rw (← done) (q .inv .5 d))
 
 pub keep-pending-spec : {M : Type 1} → statement M
 keep-pending-spec =

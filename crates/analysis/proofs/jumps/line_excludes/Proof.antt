@@ -13,11 +13,11 @@ use Rattle.analysis.proofs.jumps.line_excludes.Statement.{statement}
 use Rattle.analysis.proofs.jumps.line_excludes.Tie as tie
 
 line-sum-requires : tie.Need-line-sum-requires
-line-sum-requires c κs = let p = c .before in (p .pre .0, p .pre .3, p .pre .4)
+line-sum-requires c κs = let p = c .before in (p .pre .0 .rows, p .pre .2, p .pre .3)
 
 -- Processors times cap is within 64 millions.
 product-small : (s : tie.Start) → s .args .processors * s .args .cap ≤ 64_000_000
-product-small s = mul-le-mul (s .pre .2) (s .pre .4)
+product-small s = mul-le-mul (s .pre .1) (s .pre .3)
 
 mul-result : tie.Need-mul-result
 mul-result c = omega (arith, product-small (c .before .before))
@@ -39,12 +39,12 @@ add-result c =
     let p = c .before .before .before in
     omega (
       arith,
-      p .pre .1,
-      p .pre .0 .few,
-      p .pre .4,
+      p .pre .0 .small,
+      p .pre .0 .rows .few,
+      p .pre .3,
       c .before .line-sum .ensures,
       total-within (lineAt (now (p .args .others)) (p .args .x) (p .args .cap)) 4_294_967_296_000_000 (p .args .rows .left)
-          (λ i h. le-trans (line-within-cap _ _ _ _) (omega (arith, p .pre .4))),
+          (λ i h. le-trans (line-within-cap _ _ _ _) (omega (arith, p .pre .3))),
     )
 
 returns : tie.Need-returns

@@ -50,9 +50,8 @@ returns c =
     let first = c .before .before .before .before .before .before .meet .ensures in
     let second = c .before .before .meet2 .ensures in
     record {
-      rows = second .0;
       fewer = omega (arith, second .1 .0, p .pre .2, sheet-rows words);
-      small = omega (arith, second .1 .0, p .pre .2, p .pre .0 .rows .at-most);
+      kept = record { rows = second .0; small = omega (arith, second .1 .0, p .pre .2, p .pre .0 .rows .at-most) };
       same = λ z from.
           met-all s (now (p .args .bounds)) (p .args .row) (p .args .window) (p .args .count) z _ _ (omega (arith, p .pre .1, p .pre .2)) (p .pre .2 ∙ sym (sheet-rows words)) (p .pre .3)
           (first .1 .1 z _ (omega (arith, sized .positive)) (omega arith)) (second .1 .1 z _ (omega (arith, sized .positive)) (omega arith));

@@ -5,7 +5,7 @@ use native.Mathlib.Omega.{arith}
 use mathlib.Core.Path.{_≡_, _∙_, sym, ap}
 use mathlib.Core.Option.{Option}
 use mathlib.Core.List.{List}
-use Prim.Native.Nat.{ℕ, _+_, _*_, _-_, _≤_, _<_}
+use Prim.Native.Nat.{ℕ, _+_, _-_, _≤_, _<_}
 use native.Mathlib.Nat.{le-antisymm}
 use lib.ListN.{length}
 use denote.Ref.{now}
@@ -17,7 +17,7 @@ use Rattle.rows.specs.Words.{sheetOf, foundOf}
 use Rattle.rows.proofs.Words.{sheet-rows}
 use Rattle.rows.proofs.Checks.{sound-row}
 use Rattle.analysis.specs.Inner.{boundOr}
-use Rattle.analysis.specs.Kept.{KeptRows, keptSum, Met}
+use Rattle.analysis.specs.Kept.{Kept, Tried, keptSum, Met}
 use Rattle.analysis.proofs.Kept.{met-kept}
 use Rattle.analysis.proofs.Exclusion.{right-stands, climb-on}
 use Rattle.analysis.proofs.jumps.rta_quickly.Statement.{statement}
@@ -55,40 +55,36 @@ loop-holds c =
       c .before .before .meet-others .ensures,
     )
 
--- The deadline is within a million.
-top-small : (c : tie.After-deadline Inv-loop μ-loop) → c .deadline .result ≤ 1_000_000
-top-small c =
+-- A number that the climb stands at is one to try.
+tried : (c : tie.After-deadline Inv-loop μ-loop) → let p = c .before .before .before .before .before .before in
+    let s = sheetOf (now (p .args .words)) in
+    (x : ℕ) → s .cost (p .args .row) ≤ x → x ≤ s .deadline (p .args .row) → Tried (c .before .cost .result) (c .deadline .result) x
+tried c x from by =
     let p = c .before .before .before .before .before .before in
     let sized = sound-row (now (p .args .words)) (p .pre .0 .rows) (p .args .row) (p .pre .1) in
-    omega (arith, c .deadline .ensures)
+    let own = c .before .cost .ensures in
+    let top = c .deadline .ensures in
+    record { some-cost = omega (arith, sized .positive); from-cost = omega arith; by-deadline = omega arith; small = omega arith }
 
 add-step : tie.Need-add-step Inv-loop μ-loop
-add-step c = let top = top-small (c .before .before .before .before .before) in omega (arith, c .loop .inv .1, c .loop .inv .3, c .before .before .before .before .before .deadline .ensures)
+add-step c = let q = c .loop in let here = tried (c .before .before .before .before .before) (q .x) (q .inv .0 .from) (q .inv .1) in omega (arith, here .by-deadline, here .small, q .inv .3)
 
 -- Rows that add what the rows of the loop add are met at every number above X.
 met-by : (c : tie.At-loop Inv-loop μ-loop) → let p = c .before .before .before .before .before .before .before .before .before .before .before in
     let q = c .loop in
     let own = c .before .before .before .before .before .before .cost .result in
-    (l : List ℕ) (stay full y : ℕ) → q .x ≤ y → KeptRows l stay → (stay ≤ q .rows .left) × (full + stay * 1_000_000 ≤ 64_000_000)
+    (l : List ℕ) (stay full y : ℕ) → q .x ≤ y → Kept l stay full × (stay ≤ q .rows .left)
     → ((d : ℕ) → keptSum l stay full (q .x + d) (q .x - own + 1 + d) ≡ keptSum (q .others) (q .rows .left) (q .rows .settled) (q .x + d) (q .x - own + 1 + d))
     → Met (sheetOf (now (p .args .words))) (now (p .args .bounds)) l (p .args .row) stay full y
-met-by c l stay full y later rows small same =
+met-by c l stay full y later kept same =
     let q = c .loop in
-    met-kept _ _ _ l _ _ _ stay full (c .before .before .before .before .before .before .cost .result) (q .x) y (q .inv .4) (c .before .before .before .before .before .before .cost .ensures) (omega (arith, c .before .before .before .before .before .before .cost .ensures, q .inv .0 .from)) later rows (small .0) (small .1) same
+    met-kept _ _ _ l _ _ _ stay full (c .before .before .before .before .before .before .cost .result) (q .x) y (q .inv .4) (c .before .before .before .before .before .before .cost .ensures) (omega (arith, c .before .before .before .before .before .before .cost .ensures, q .inv .0 .from)) later kept same
 
 leap-far-requires : tie.Need-leap-far-requires Inv-loop μ-loop
 leap-far-requires c κs =
     let p = c .before .before .before .before .before .before .before .before .before .before .before .before in
     let q = c .before .loop in
-    let sized = sound-row (now (p .args .words)) (p .pre .0 .rows) (p .args .row) (p .pre .1) in (
-      q .inv .4 .rows,
-      q .inv .4 .small,
-      omega (arith, c .before .before .before .before .before .before .before .cost .ensures, sized .positive),
-      omega (arith, c .before .before .before .before .before .before .before .cost .ensures, q .inv .0 .from),
-      omega (arith, c .before .before .before .before .before .before .deadline .ensures, q .inv .1),
-      top-small (c .before .before .before .before .before .before),
-      p .pre .4,
-    )
+    (q .inv .4 .kept, tried (c .before .before .before .before .before .before) (q .x) (q .inv .0 .from) (q .inv .1), p .pre .4)
 
 -- The climb stands where the leap ends.
 climbed : (c : tie.After-leap-far Inv-loop μ-loop) → let p = c .before .before .before .before .before .before .before .before .before .before .before .before .before in
@@ -97,24 +93,20 @@ climbed c =
     let p = c .before .before .before .before .before .before .before .before .before .before .before .before .before in
     let q = c .before .before .loop in
     let leapt = c .leap-far .ensures in
-    climb-on _ _ _ _ _ _ (q .x) _ (met-by (c .before .before) _ _ _ (q .x) (omega arith) (leapt .0) (leapt .1 .0) (leapt .1 .1 .0)) (p .pre .3) (c .before .before .before .before .before .before .before .before .cost .result) _ (c .before .before .before .before .before .before .before .before .cost .ensures)
-    (omega (arith, c .before .before .before .before .before .before .before .before .cost .ensures, q .inv .0 .from)) (leapt .1 .1 .1 .0) (leapt .1 .1 .1 .2) (q .inv .0)
+    climb-on _ _ _ _ _ _ (q .x) _ (met-by (c .before .before) _ _ _ (q .x) (omega arith) (leapt .0) (leapt .1 .0)) (p .pre .3) (c .before .before .before .before .before .before .before .before .cost .result) _ (c .before .before .before .before .before .before .before .before .cost .ensures)
+    (omega (arith, c .before .before .before .before .before .before .before .before .cost .ensures, q .inv .0 .from)) (leapt .1 .1 .0) (leapt .1 .1 .2) (q .inv .0)
 
 onward-requires : tie.Need-onward-requires Inv-loop μ-loop
 onward-requires c κs =
     let p = c .before .before .before .before .before .before .before .before .before .before .before .before .before .before .before .before .before in
     let q = c .before .before .before .before .before .before .loop in
-    let sized = sound-row (now (p .args .words)) (p .pre .0 .rows) (p .args .row) (p .pre .1) in
-    let leapt = c .before .before .before .before .leap-far .ensures in (
-      leapt .0,
-      leapt .1 .0 .1,
-      omega (arith, c .before .before .before .before .before .before .before .before .before .before .before .before .cost .ensures, sized .positive),
-      omega (arith, c .before .before .before .before .before .before .before .before .before .before .before .before .cost .ensures, q .inv .0 .from, leapt .1 .1 .1 .0),
-      leapt .1 .1 .1 .1,
-      top-small (c .before .before .before .before .before .before .before .before .before .before .before),
+    let leapt = c .before .before .before .before .leap-far .ensures in
+    let goes = leapt .1 .1 in (
+      leapt .0 .0,
+      tried (c .before .before .before .before .before .before .before .before .before .before .before) _ (omega (arith, q .inv .0 .from, goes .0)) (omega (arith, goes .1, c .before .before .before .before .before .before .before .before .before .before .before .deadline .ensures)),
       p .pre .3,
       p .pre .4,
-      omega (arith, leapt .1 .0 .0, q .inv .4 .fewer, q .inv .2, p .pre .2, sheet-rows (now (p .args .words))),
+      omega (arith, leapt .0 .1, q .inv .4 .fewer, q .inv .2, p .pre .2, sheet-rows (now (p .args .words))),
     )
 
 -- And where the next number is.
@@ -125,11 +117,11 @@ onwards c =
     let from = c .before .before .before .before .before .leap-far .result .x in
     let leapt = c .before .before .before .before .before .leap-far .ensures in
     let there = climbed (c .before .before .before .before .before) in
-    climb-on _ _ _ _ _ _ from _ (met-by (c .before .before .before .before .before .before .before) _ _ _ from (leapt .1 .1 .1 .0) (leapt .0) (leapt .1 .0) (leapt .1 .1 .0)) (p .pre .3) (c .before .before .before .before .before .before .before .before .before .before .before .before .before .cost .result) _ (c .before .before .before .before .before .before .before .before .before .before .before .before .before .cost .ensures)
+    climb-on _ _ _ _ _ _ from _ (met-by (c .before .before .before .before .before .before .before) _ _ _ from (leapt .1 .1 .0) (leapt .0) (leapt .1 .0)) (p .pre .3) (c .before .before .before .before .before .before .before .before .before .before .before .before .before .cost .result) _ (c .before .before .before .before .before .before .before .before .before .before .before .before .before .cost .ensures)
     (omega (arith, c .before .before .before .before .before .before .before .before .before .before .before .before .before .cost .ensures, there .from)) (c .onward .ensures .0 .0) (c .onward .ensures .0 .1) there
 
 same-length : tie.Need-same-length Inv-loop μ-loop
-same-length c = c .before .before .before .before .before .before .before .before .leap-far .ensures .0 .sized ∙ sym (c .before .before .before .before .before .before .before .before .before .before .before .before .before .before .before .before .before .before .before .before .before .pre .5)
+same-length c = c .before .before .before .before .before .before .before .before .leap-far .ensures .0 .0 .rows .sized ∙ sym (c .before .before .before .before .before .before .before .before .before .before .before .before .before .before .before .before .before .before .before .before .before .pre .5)
 
 same-length-2 : tie.Need-same-length-2 Inv-loop μ-loop
 same-length-2 c = c .before .before .before .onward .kept .1 .1 .1 .1 .1 .1 .0 ∙ c .before .before .before .before .before .before .before .before .before .before .loop .inv .2 ∙ sym (c .before .before .before .before .before .before .before .before .before .before .before .before .before .before .before .before .before .before .before .before .before .pre .6)
@@ -141,11 +133,11 @@ returns c =
     let from = c .before .before .before .before .before .before .before .before .leap-far .result .x in
     let leapt = c .before .before .before .before .before .before .before .before .leap-far .ensures in
     let there = climbed (c .before .before .before .before .before .before .before .before) in
-    let stays = right-stands _ _ _ _ _ _ from _ (met-by (c .before .before .before .before .before .before .before .before .before .before) _ _ _ from (leapt .1 .1 .1 .0) (leapt .0) (leapt .1 .0) (leapt .1 .1 .0)) (p .pre .3) _ (c .before .before .before .before .before .before .before .before .before .before .before .before .before .before .before .before .cost .ensures) (omega (arith, there .from, c .before .before .before .before .before .before .before .before .before .before .before .before .before .before .before .before .cost .ensures)) (c .before .before .before .onward .ensures .1 (c .if1 .taken)) in
-    sym (ap (λ (o : Option ℕ). boundOr (foundOf o) 0) (climb-found _ _ _ _ from there (omega (arith, c .before .before .before .before .before .before .before .before .leap-far .ensures .1 .1 .1 .1, c .before .before .before .before .before .before .before .before .before .before .before .before .before .before .before .deadline .ensures)) (le-antisymm (there .rises) stays)))
+    let stays = right-stands _ _ _ _ _ _ from _ (met-by (c .before .before .before .before .before .before .before .before .before .before) _ _ _ from (leapt .1 .1 .0) (leapt .0) (leapt .1 .0)) (p .pre .3) _ (c .before .before .before .before .before .before .before .before .before .before .before .before .before .before .before .before .cost .ensures) (omega (arith, there .from, c .before .before .before .before .before .before .before .before .before .before .before .before .before .before .before .before .cost .ensures)) (c .before .before .before .onward .ensures .1 (c .if1 .taken)) in
+    sym (ap (λ (o : Option ℕ). boundOr (foundOf o) 0) (climb-found _ _ _ _ from there (omega (arith, c .before .before .before .before .before .before .before .before .leap-far .ensures .1 .1 .1, c .before .before .before .before .before .before .before .before .before .before .before .before .before .before .before .deadline .ensures)) (le-antisymm (there .rises) stays)))
 
 same-length-3 : tie.Need-same-length-3 Inv-loop μ-loop
-same-length-3 c = c .before .before .before .before .before .before .before .before .before .leap-far .ensures .0 .sized ∙ sym (c .before .before .before .before .before .before .before .before .before .before .before .before .before .before .before .before .before .before .before .before .before .before .pre .5)
+same-length-3 c = c .before .before .before .before .before .before .before .before .before .leap-far .ensures .0 .0 .rows .sized ∙ sym (c .before .before .before .before .before .before .before .before .before .before .before .before .before .before .before .before .before .before .before .before .before .before .pre .5)
 
 same-length-4 : tie.Need-same-length-4 Inv-loop μ-loop
 same-length-4 c = c .before .before .before .before .onward .kept .1 .1 .1 .1 .1 .1 .0 ∙ c .before .before .before .before .before .before .before .before .before .before .before .loop .inv .2 ∙ sym (c .before .before .before .before .before .before .before .before .before .before .before .before .before .before .before .before .before .before .before .before .before .before .pre .6)
@@ -159,7 +151,7 @@ unfolding foundOf boundOr
 returns-2 c = sym (ap (λ (o : Option ℕ). boundOr (foundOf o) 0) (climb-none _ _ _ _ _ (onwards (c .before .before .before .before)) (omega (arith, c .if2 .taken, c .before .before .before .before .before .before .before .before .before .before .before .before .before .before .before .before .deadline .ensures))))
 
 loop-less : tie.Need-loop-less Inv-loop μ-loop
-loop-less c = omega (arith, further (c .before), c .if2 .left, c .before .before .before .before .before .before .before .before .before .before .before .before .before .before .before .before .deadline .ensures, c .before .before .before .before .before .before .before .before .before .leap-far .ensures .1 .1 .1 .0)
+loop-less c = omega (arith, further (c .before), c .if2 .left, c .before .before .before .before .before .before .before .before .before .before .before .before .before .before .before .before .deadline .ensures, c .before .before .before .before .before .before .before .before .before .leap-far .ensures .1 .1 .0)
 
 loop-again : tie.Need-loop-again Inv-loop μ-loop
 loop-again c =
@@ -168,8 +160,8 @@ loop-again c =
       onwards (c .before .before .before .before),
       omega (arith, c .if2 .left, c .before .before .before .before .before .before .before .before .before .before .before .before .before .before .before .before .deadline .ensures),
       c .before .before .before .before .onward .kept .1 .1 .1 .1 .1 .1 .0 ∙ q .inv .2,
-      omega (arith, further (c .before), q .inv .3, c .before .before .before .before .before .before .before .before .before .leap-far .ensures .1 .1 .1 .0),
-      met-by (c .before .before .before .before .before .before .before .before .before .before .before) _ _ _ (c .before .before .before .before .onward .result) (omega (arith, c .before .before .before .before .onward .ensures .0 .0, leapt .1 .1 .1 .0)) (leapt .0) (leapt .1 .0) (leapt .1 .1 .0),
+      omega (arith, further (c .before), q .inv .3, c .before .before .before .before .before .before .before .before .before .leap-far .ensures .1 .1 .0),
+      met-by (c .before .before .before .before .before .before .before .before .before .before .before) _ _ _ (c .before .before .before .before .onward .result) (omega (arith, c .before .before .before .before .onward .ensures .0 .0, leapt .1 .1 .0)) (leapt .0) (leapt .1 .0),
     )
 
 pub rta-quickly-spec : {M : Type 1} → statement M
