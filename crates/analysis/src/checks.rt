@@ -13,8 +13,8 @@ ghost use Prim.Native.Nat.{_≤_, _<_};
 ghost use lib.ListN.{length};
 ghost use Rattle.laws.specs.Bits.{every};
 ghost use Rattle.rows.specs.Words.{rowCount, sheetOf};
-ghost use Rattle.analysis.specs.Question.{boundAllowed, questionAllowed, oneRowRefusal};
-ghost use Rattle.analysis.specs.Refinement.{refineRefusal};
+ghost use Rattle.refinement.specs.Question.{boundAllowed, questionAllowed, oneRowRefusal};
+ghost use Rattle.refinement.specs.Refinement.{refineRefusal};
 
 // Whether the bound of a row lies from its cost to its deadline.
 pub(crate) fn bound_allowed(words: &[u32], bounds: &[u32], row: u32) -> bool

@@ -1,38 +1,20 @@
 // The one-row question and the two engines, on lent words.
 mod checks;
-mod interference;
-mod jumps;
-mod passes;
-mod ray;
-mod response;
 
 use checks::question_refusal;
 use checks::refine_refusal;
-use passes::run_at_once;
-use passes::run_rounds;
-use response::answer_quickly;
+use engines::run_at_once;
+use engines::run_rounds;
+use refinement::OneRow;
+use refinement::Refined;
 use rows::Found;
 use rows::row_count;
+use turns::answer_quickly;
 ghost use mathlib.Core.Path.{_≡_};
 ghost use lib.ListN.{length};
 ghost use Rattle.model.specs.Refine.{rounds, atOnce};
-ghost use Rattle.analysis.specs.Question.{oneRow};
-ghost use Rattle.analysis.specs.Refinement.{refined, refinedWords};
-
-// The answer to the one-row question: a refusal's number and place, or 0, 0 and the row's bound or none.
-pub struct OneRow {
-    pub refusal: u32,
-    pub place: u32,
-    pub answer: Found,
-}
-
-// The answer of a refinement: a refusal's number and place, or 0, 0 and the marks.
-#[repr(C)]
-pub struct Refined {
-    pub refusal: u32,
-    pub place: u32,
-    pub marks: u64,
-}
+ghost use Rattle.refinement.specs.Question.{oneRow};
+ghost use Rattle.refinement.specs.Refinement.{refined, refinedWords};
 
 // One row's answer under given bounds: the least response time that solves the equation (method 1), the formula's value (method 0), or none.
 pub fn one_row(words: &[u32], processors: u32, method: u32, bounds: &[u32], row: u32) -> OneRow

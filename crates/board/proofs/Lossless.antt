@@ -11,11 +11,11 @@ use Rattle.rows.specs.declared.Found.the-variants.{At, Nowhere}
 use Rattle.rows.specs.Words.{sheetOf}
 use Rattle.rows.proofs.Words.{found-some}
 use Rattle.rows.proofs.Checks.{sound-row}
-use Rattle.analysis.specs.declared.OneRow.{OneRow}
-use Rattle.analysis.specs.Question.{oneRowRefusal, oneRow, boundNumber}
-use Rattle.analysis.proofs.Question.{asked, one-row-answered, one-row-refused}
-use Rattle.demand.specs.declared.Answer.{Answer}
-use Rattle.demand.proofs.Promised.{numbers-fix}
+use Rattle.refinement.specs.declared.OneRow.{OneRow}
+use Rattle.refinement.specs.Question.{oneRowRefusal, oneRow, boundNumber}
+use Rattle.refinement.proofs.Question.{asked, one-row-answered, one-row-refused}
+use Rattle.verdict.specs.declared.Answer.{Answer}
+use Rattle.verdict.proofs.Promised.{numbers-fix}
 use Rattle.board.specs.declared.RowNumbers.{RowNumbers}
 use Rattle.board.specs.declared.OutcomeNumbers.{OutcomeNumbers}
 use Rattle.board.specs.Face.{rowInNumbers, outcomeInNumbers}

@@ -1,8 +1,8 @@
 -- The C face: an answer that holds an enum is told in numbers alone. Refusal and place stay what they are.
-use Rattle.analysis.specs.declared.OneRow.{OneRow}
-use Rattle.analysis.specs.Question.{boundNumber}
-use Rattle.demand.specs.declared.Answer.{Answer}
-use Rattle.demand.specs.OneProcessor.{outcomeNumber, outcomeValue}
+use Rattle.refinement.specs.declared.OneRow.{OneRow}
+use Rattle.refinement.specs.Question.{boundNumber}
+use Rattle.verdict.specs.declared.Answer.{Answer}
+use Rattle.verdict.specs.OneProcessor.{outcomeNumber, outcomeValue}
 use Rattle.board.specs.declared.RowNumbers.{RowNumbers}
 use Rattle.board.specs.declared.OutcomeNumbers.{OutcomeNumbers}
 

@@ -1,9 +1,9 @@
 // Each case of an enum as numbers.
-use demand::Outcome;
 use rows::Found;
+use verdict::Outcome;
 ghost use mathlib.Core.Path.{_≡_};
-ghost use Rattle.analysis.specs.Question.{boundNumber};
-ghost use Rattle.demand.specs.OneProcessor.{outcomeNumber, outcomeValue};
+ghost use Rattle.refinement.specs.Question.{boundNumber};
+ghost use Rattle.verdict.specs.OneProcessor.{outcomeNumber, outcomeValue};
 
 // A bound is itself, none is 0.
 pub(crate) fn bound_number(found: Found) -> u32

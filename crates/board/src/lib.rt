@@ -1,7 +1,6 @@
 // The C face: one exported function for each public entry, on numbers and lent slices. Nothing is worked out here.
 mod cases;
 
-use analysis::Refined;
 use analysis::one_row;
 use analysis::refine_at_once;
 use analysis::refine_rounds;
@@ -9,20 +8,21 @@ use cases::bound_number;
 use cases::outcome_number;
 use cases::outcome_value;
 use demand::one_processor;
+use grammar::Read;
+use grammar::Written;
+use refinement::Refined;
 use result::answer_sheet;
 use result::write_result;
-use sheet::Read;
-use sheet::Written;
 use sheet::read_sheet;
 use sheet::write_sheet;
 ghost use mathlib.Core.Path.{_≡_};
 ghost use lib.ListN.{length};
 ghost use Rattle.model.specs.Refine.{rounds, atOnce};
-ghost use Rattle.analysis.specs.Question.{oneRow};
-ghost use Rattle.analysis.specs.Refinement.{refined, refinedWords};
-ghost use Rattle.demand.specs.OneProcessor.{oneProcessor};
-ghost use Rattle.sheet.specs.Sheets.{readSheet, wordsAfter, writeSheet, bytesAfter};
-ghost use Rattle.result.specs.Result.{writeResult, resultAfter, answerSheet, answerAfter};
+ghost use Rattle.refinement.specs.Question.{oneRow};
+ghost use Rattle.refinement.specs.Refinement.{refined, refinedWords};
+ghost use Rattle.verdict.specs.OneProcessor.{oneProcessor};
+ghost use Rattle.grammar.specs.Sheets.{readSheet, wordsAfter, writeSheet, bytesAfter};
+ghost use Rattle.report.specs.Result.{writeResult, resultAfter, answerSheet, answerAfter};
 ghost use Rattle.board.specs.Face.{rowInNumbers, outcomeInNumbers};
 
 // The answer to the one-row question in numbers: the bound is 0 where there is none.

@@ -4,7 +4,7 @@ ghost use mathlib.Core.Path.{_≡_};
 ghost use Prim.Native.Nat.{_≤_};
 ghost use Rattle.model.specs.Demand.{busyOf, busy, busyLength};
 ghost use Rattle.rows.specs.Words.{sheetOf, foundOf};
-ghost use Rattle.demand.specs.Inner.{Given, RowGiven};
+ghost use Rattle.verdict.specs.Inner.{Given, RowGiven};
 
 // A row's part of the busy sum: ceil(length / T) × C. From length 1 on the ceiling is one more than floor((length − 1) / T).
 pub(crate) fn busy_part(words: &[u32], row: u32, length: u32) -> u32

@@ -1,14 +1,14 @@
 // The least length with demand above it, looked for from one deadline to the next, and no further than the busy length.
-use crate::Outcome;
-use crate::clear::clear_up_to;
-use crate::jobs::look_at;
+use clear_lengths::clear_up_to;
+use clear_lengths::look_at;
 use numbers::lesser;
 use rows::Found;
+use verdict::Outcome;
 ghost use mathlib.Core.Path.{_≡_};
 ghost use Rattle.model.specs.Demand.{verdict};
 ghost use Rattle.rows.specs.Words.{sheetOf};
-ghost use Rattle.demand.specs.OneProcessor.{outcomeOf};
-ghost use Rattle.demand.specs.Inner.{BusyGiven, furthest, withoutMiss};
+ghost use Rattle.verdict.specs.OneProcessor.{outcomeOf};
+ghost use Rattle.verdict.specs.Inner.{BusyGiven, furthest, withoutMiss};
 
 // The last length to look at: the busy length, else the horizon.
 pub(crate) fn last_length(busy: Found, horizon: u32) -> u32

@@ -1,7 +1,5 @@
 // The exact test for one processor, on rows in lent words.
-mod clear;
 mod climb;
-mod jobs;
 mod lengths;
 
 use climb::busy_length;
@@ -9,23 +7,10 @@ use lengths::outcome_within;
 use rows::range_refusal;
 use rows::row_count;
 use rows::words_refusal;
+use verdict::Answer;
+use verdict::Outcome;
 ghost use mathlib.Core.Path.{_≡_};
-ghost use Rattle.demand.specs.OneProcessor.{horizonRefusal, oneProcessor};
-
-// What the test says of a sheet: the shortest length that demands more than its length, or the busy length, which shows that no length
-// does, or neither within the horizon.
-pub enum Outcome {
-    Miss(u32),
-    Fits(u32),
-    Undecided,
-}
-
-// A refusal's number and place, 0 and 0 where there is none; then what the test says. A refused answer says Undecided.
-pub struct Answer {
-    pub refusal: u32,
-    pub place: u32,
-    pub outcome: Outcome,
-}
+ghost use Rattle.verdict.specs.OneProcessor.{horizonRefusal, oneProcessor};
 
 // 6 where the horizon is 0 or above 16,777,216, else 0.
 pub fn horizon_refusal(horizon: u32) -> u32

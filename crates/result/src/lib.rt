@@ -2,6 +2,7 @@
 mod lines;
 
 use analysis::refine_at_once;
+use grammar::Written;
 use rows::Refusal;
 use rows::first_of;
 use rows::method_refusal;
@@ -9,17 +10,16 @@ use rows::processors_refusal;
 use rows::room_refusal;
 use rows::row_count;
 use rows::words_refusal;
-use sheet::Written;
 use sheet::read_sheet;
 ghost use mathlib.Core.Path.{_≡_};
 ghost use lib.ListN.{length};
 ghost use Rattle.laws.specs.Fill.{atFront};
 ghost use Rattle.rows.specs.Words.{rowCount};
 ghost use Rattle.rows.specs.Checks.{refused, roomRefusal};
-ghost use Rattle.analysis.specs.Refinement.{refineRefusal};
-ghost use Rattle.sheet.specs.Sheets.{writeAnswer};
-ghost use Rattle.result.specs.Lines.{resultLength, refusalLine};
-ghost use Rattle.result.specs.Result.{resultOf, resultRefusal, writeResult, resultAfter, answerSheet, answerAfter};
+ghost use Rattle.refinement.specs.Refinement.{refineRefusal};
+ghost use Rattle.grammar.specs.Sheets.{writeAnswer};
+ghost use Rattle.report.specs.Lines.{resultLength, refusalLine};
+ghost use Rattle.report.specs.Result.{resultOf, resultRefusal, writeResult, resultAfter, answerSheet, answerAfter};
 
 // The refusal of writing a result sheet, in number order: 2, 3, 4, 5, 7, 8.
 fn result_refusal(words: &[u32], processors: u32, method: u32, room: usize) -> Refusal

@@ -5,8 +5,8 @@ ghost use Prim.Native.Nat.{_+_, _*_, _≤_, _<_};
 ghost use lib.ListN.{length};
 ghost use Rattle.laws.specs.Fill.{joined};
 ghost use Rattle.laws.specs.Bits.{bit, bitAt, every};
-ghost use Rattle.result.specs.Lines.{line, resultLength, lineText};
-ghost use Rattle.result.specs.Inner.{lineFrom, isSet, linesFrom};
+ghost use Rattle.report.specs.Lines.{line, resultLength, lineText};
+ghost use Rattle.report.specs.Inner.{lineFrom, isSet, linesFrom};
 
 // The length of line one.
 pub(crate) const HEAD: usize = 7;

@@ -3,7 +3,7 @@ use rows::first_of;
 use rows::processors_refusal;
 use rows::room_refusal;
 ghost use mathlib.Core.Path.{_≡_};
-ghost use Rattle.sheet.specs.Sheets.{betweenRefusal};
+ghost use Rattle.grammar.specs.Sheets.{betweenRefusal};
 
 // 4 where the processors are refused, else 7 where the answer has no room, else 0.
 pub(crate) fn between_refusal(processors: u32, room: usize, need: usize) -> u32

@@ -1,33 +1,17 @@
 // Task sheets: read, written, and back again.
 mod checks;
-mod form;
 mod reader;
 mod writer;
 
 use checks::between_refusal;
+use grammar::Read;
+use grammar::Written;
 use rows::Found;
 use rows::row_count;
 use rows::words_refusal;
 ghost use mathlib.Core.Path.{_≡_};
 ghost use lib.ListN.{length};
-ghost use Rattle.sheet.specs.Sheets.{readSheet, wordsAfter, writeSheet, bytesAfter};
-
-// What reading a sheet returns: the refusal's number and place, or 0 and 0 with the processors and the row count.
-#[repr(C)]
-pub struct Read {
-    pub refusal: u32,
-    pub place: u32,
-    pub processors: u32,
-    pub rows: u32,
-}
-
-// What writing a sheet returns: the refusal's number and place, or 0 and 0 with the number of bytes written.
-#[repr(C)]
-pub struct Written {
-    pub refusal: u32,
-    pub place: u32,
-    pub length: u32,
-}
+ghost use Rattle.grammar.specs.Sheets.{readSheet, wordsAfter, writeSheet, bytesAfter};
 
 // Reads a task sheet: on success the rows' words stand at the front of `words`.
 pub fn read_sheet(bytes: &[u8], words: &mut [u32]) -> Read

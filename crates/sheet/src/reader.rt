@@ -1,18 +1,17 @@
 // Reading the rows of a sheet that has the right form.
-use crate::Read;
 use crate::checks::between_refusal;
-use crate::form;
-use crate::form::FirstLine;
+use form::FirstLine;
+use grammar::Read;
 use rows::words_refusal;
 ghost use mathlib.Core.Path.{_≡_};
 ghost use mathlib.Core.List.{_++_};
 ghost use Prim.Native.Nat.{_*_, _≤_, _<_, _^_};
 ghost use lib.ListN.{length, drop};
 ghost use Rattle.laws.specs.Fill.{listed, atFront};
-ghost use Rattle.sheet.specs.Grammar.{rowsWritten};
-ghost use Rattle.sheet.specs.Lines.{wordWritten, wordsWritten};
-ghost use Rattle.sheet.specs.Sheets.{formedRefusal, readRefused, readAnswer};
-ghost use Rattle.sheet.specs.Inner.{LineOne};
+ghost use Rattle.grammar.specs.Grammar.{rowsWritten};
+ghost use Rattle.grammar.specs.Lines.{wordWritten, wordsWritten};
+ghost use Rattle.grammar.specs.Sheets.{formedRefusal, readRefused, readAnswer};
+ghost use Rattle.form.specs.Inner.{LineOne};
 
 // What reading returns where it refuses.
 pub(crate) fn refuse(number: u32, place: u32) -> Read

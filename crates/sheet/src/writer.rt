@@ -1,5 +1,4 @@
 // Writing the lines of a sheet, each into the part of the output that is lent for it.
-use crate::form;
 use digits::put_digits;
 use rows::cost;
 use rows::deadline;
@@ -9,8 +8,8 @@ ghost use Prim.Native.Nat.{_*_, _≤_, _<_};
 ghost use lib.ListN.{length};
 ghost use Rattle.laws.specs.Fill.{joined};
 ghost use Rattle.rows.specs.Words.{rowCount, sheetOf};
-ghost use Rattle.sheet.specs.Grammar.{head, line, sheetLength};
-ghost use Rattle.sheet.specs.Lines.{firstLine, rowLine, lineOf, sheetBytes};
+ghost use Rattle.grammar.specs.Grammar.{head, line, sheetLength};
+ghost use Rattle.grammar.specs.Lines.{firstLine, rowLine, lineOf, sheetBytes};
 
 // Writes line one: `01`, processors, rows.
 pub(crate) fn put_first_line(out: &mut [u8], processors: u32, rows: u32)

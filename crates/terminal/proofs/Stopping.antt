@@ -11,12 +11,12 @@ use lib.Seq.{take-all, length-take-le, getD-take}
 use Rattle.laws.proofs.Choice.{is-refused}
 use Rattle.laws.proofs.Order.{below-or-from}
 use Rattle.digits.proofs.Number.{number-same}
-use Rattle.sheet.specs.Grammar.{head, line, sheetLength, sheetAllows, rowsWritten, firstWrong}
-use Rattle.sheet.specs.Meaning.{Formed, EndsAt, WrongByteAt, Breaks, FormMeans}
-use Rattle.sheet.proofs.Meaning.{form-means, form-fixed, place-limit}
-use Rattle.sheet.proofs.Refusals.{form-wrong}
-use Rattle.result.specs.Lines.{refusalLine}
-use Rattle.result.specs.Result.{mostWords, answerText}
+use Rattle.grammar.specs.Grammar.{head, line, sheetLength, sheetAllows, rowsWritten, firstWrong}
+use Rattle.grammar.specs.Meaning.{Formed, EndsAt, WrongByteAt, Breaks, FormMeans}
+use Rattle.grammar.proofs.Meaning.{form-means, form-fixed, place-limit}
+use Rattle.grammar.proofs.Refusals.{form-wrong}
+use Rattle.report.specs.Lines.{refusalLine}
+use Rattle.report.specs.Result.{mostWords, answerText}
 
 -- The answer to bytes that break the form is the line that says where.
 broken-answer : (bytes : List ℕ) (place : ℕ) → firstWrong bytes ≡ some place → answerText bytes ≡ refusalLine 1 place

@@ -6,8 +6,8 @@ ghost use mathlib.Core.Path.{_≡_};
 ghost use mathlib.Core.List.{_++_};
 ghost use Prim.Native.Nat.{_<_};
 ghost use lib.ListN.{length, drop};
-ghost use Rattle.sheet.specs.Grammar.{sheetLength};
-ghost use Rattle.result.specs.Result.{answerText};
+ghost use Rattle.grammar.specs.Grammar.{sheetLength};
+ghost use Rattle.report.specs.Result.{answerText};
 
 // As many bytes as are read at most: the longest sheet has fewer, and whatever is longer is refused by them alone.
 const MOST: usize = 8192;

@@ -1,11 +1,11 @@
 // Writing what an entry answered, in words and decimal numbers.
-use analysis::OneRow;
-use analysis::Refined;
-use demand::Answer;
-use demand::Outcome;
+use grammar::Written;
 use libc::STDOUT_FILENO;
+use refinement::OneRow;
+use refinement::Refined;
 use rows::Found;
-use sheet::Written;
+use verdict::Answer;
+use verdict::Outcome;
 
 // Writes a text as it stands.
 pub(crate) fn text(bytes: &[u8]) {

@@ -4,9 +4,9 @@ use mathlib.Core.Path.{_≡_, sym, _∙_, ap}
 use denote.Ref.{now}
 use Rattle.rows.specs.declared.Found.{Found}
 use Rattle.rows.specs.declared.Refusal.{Refusal}
-use Rattle.analysis.specs.declared.OneRow.{OneRow}
-use Rattle.analysis.specs.Question.{oneRowRefusal}
-use Rattle.analysis.proofs.Question.{Asked, asked, one-row-answered, one-row-refused}
+use Rattle.refinement.specs.declared.OneRow.{OneRow}
+use Rattle.refinement.specs.Question.{oneRowRefusal}
+use Rattle.refinement.proofs.Question.{Asked, asked, one-row-answered, one-row-refused}
 use native.Mathlib.Omega.{arith}
 use Rattle.analysis.proofs.one_row.Statement.{statement}
 use Rattle.analysis.proofs.one_row.Tie as tie

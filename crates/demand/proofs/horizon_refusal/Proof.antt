@@ -2,7 +2,7 @@
 use borrow.Author.Needs.{needs}
 use Rattle.model.specs.Sheet.{horizonAllowed}
 use Rattle.rows.specs.Checks.{rangeRefusal}
-use Rattle.demand.specs.OneProcessor.{horizonRefusal}
+use Rattle.verdict.specs.OneProcessor.{horizonRefusal}
 use Rattle.demand.proofs.horizon_refusal.Statement.{statement}
 use Rattle.demand.proofs.horizon_refusal.Tie as tie
 

@@ -3,12 +3,12 @@ use mathlib.Core.Path.{_≡_, sym, _∙_, ap}
 use native.Mathlib.Omega.{arith}
 use borrow.Author.Needs.{needs}
 use Rattle.rows.specs.declared.Refusal.{Refusal}
-use Rattle.demand.specs.declared.Outcome.{Outcome}
-use Rattle.demand.specs.declared.Answer.{Answer}
-use Rattle.demand.specs.OneProcessor.{refusalOf, refusedAnswer, answered}
-use Rattle.demand.specs.Inner.{Given}
-use Rattle.demand.proofs.Checked.{Checked, checked}
-use Rattle.demand.proofs.Promised.{answer-refused, answer-worked}
+use Rattle.verdict.specs.declared.Outcome.{Outcome}
+use Rattle.verdict.specs.declared.Answer.{Answer}
+use Rattle.verdict.specs.OneProcessor.{refusalOf, refusedAnswer, answered}
+use Rattle.verdict.specs.Inner.{Given}
+use Rattle.verdict.proofs.Checked.{Checked, checked}
+use Rattle.verdict.proofs.Promised.{answer-refused, answer-worked}
 use Rattle.demand.proofs.one_processor.Statement.{statement}
 use Rattle.demand.proofs.one_processor.Tie as tie
 

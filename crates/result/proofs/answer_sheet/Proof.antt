@@ -7,8 +7,8 @@ use lib.ListN.{replicate, length, take}
 use lib.Seq.{length-take-le}
 use native.Mathlib.Omega.{arith}
 use denote.Ref.{now}
-use Rattle.result.specs.Result.{writeResult, resultAfter}
-use Rattle.result.proofs.Answer.{refused-answer, words-room, accepted-answer}
+use Rattle.report.specs.Result.{writeResult, resultAfter}
+use Rattle.report.proofs.Answer.{refused-answer, words-room, accepted-answer}
 use Rattle.result.proofs.answer_sheet.Statement.{statement}
 use Rattle.result.proofs.answer_sheet.Tie as tie
 

@@ -3,8 +3,8 @@ use borrow.Author.Needs.{needs}
 use mathlib.Core.Path.{_∙_}
 use lib.ListN.{replicate}
 use denote.Ref.{now}
-use Rattle.analysis.proofs.Refinement.{refining}
-use Rattle.result.proofs.Entries.{bound-each, refined-text}
+use Rattle.refinement.proofs.Refinement.{refining}
+use Rattle.report.proofs.Entries.{bound-each, refined-text}
 use native.Mathlib.Omega.{arith}
 use Rattle.result.proofs.put_refined.Statement.{statement}
 use Rattle.result.proofs.put_refined.Tie as tie

@@ -4,8 +4,8 @@ use mathlib.Core.Path.{_≡_, ap}
 use Prim.Native.Nat.{ℕ, _+_, _*_, _/_}
 use lib.ListN.{length}
 use Rattle.rows.specs.Words.{rowCount}
-use Rattle.result.specs.Lines.{head, line, resultLength}
-use Rattle.result.proofs.Entries.{chain}
+use Rattle.report.specs.Lines.{head, line, resultLength}
+use Rattle.report.proofs.Entries.{chain}
 use native.Mathlib.Omega.{arith}
 use Rattle.result.proofs.result_refusal.Statement.{statement}
 use Rattle.result.proofs.result_refusal.Tie as tie

@@ -9,9 +9,9 @@ use lib.Seq.{length-take-le}
 use Rattle.laws.proofs.Choice.{pick-yes}
 use Rattle.rows.specs.Checks.{refused, roomRefusal}
 use Rattle.rows.proofs.Checks.{enough-room}
-use Rattle.sheet.proofs.Refusals.{write-refused, write-accepted}
-use Rattle.result.specs.Lines.{refusalLine}
-use Rattle.result.proofs.Text.{refusal-length}
+use Rattle.grammar.proofs.Refusals.{write-refused, write-accepted}
+use Rattle.report.specs.Lines.{refusalLine}
+use Rattle.report.proofs.Text.{refusal-length}
 use native.Mathlib.Omega.{arith}
 use Rattle.laws.proofs.Fill.{front-left, front-put}
 use Rattle.result.proofs.write_refusal.Statement.{statement}

@@ -7,12 +7,12 @@ use lib.ListN.{length, take, drop}
 use lib.Seq.{length-take-le}
 use Rattle.rows.specs.declared.Refusal.{Refusal}
 use Rattle.rows.specs.Words.{rowCount}
-use Rattle.sheet.specs.declared.Written.{Written}
-use Rattle.sheet.specs.Sheets.{writeAnswer}
-use Rattle.sheet.proofs.Refusals.{write-refused, write-accepted}
-use Rattle.result.specs.Lines.{head, line, resultLength}
-use Rattle.result.specs.Result.{resultOf, resultRefusal, writeResult, resultAfter}
-use Rattle.result.proofs.Entries.{Writable, writable, refines, result-of-length}
+use Rattle.grammar.specs.declared.Written.{Written}
+use Rattle.grammar.specs.Sheets.{writeAnswer}
+use Rattle.grammar.proofs.Refusals.{write-refused, write-accepted}
+use Rattle.report.specs.Lines.{head, line, resultLength}
+use Rattle.report.specs.Result.{resultOf, resultRefusal, writeResult, resultAfter}
+use Rattle.report.proofs.Entries.{Writable, writable, refines, result-of-length}
 use native.Mathlib.Omega.{arith}
 use Rattle.laws.specs.Fill.{atFront}
 use Rattle.laws.proofs.Fill.{front-left, front-put}

@@ -6,9 +6,9 @@ use borrow.Author.Needs.{needs}
 use lib.ListN.{length}
 use Rattle.rows.specs.Checks.{refused}
 use Rattle.rows.proofs.Words.{found-some, found-none}
-use Rattle.sheet.specs.Grammar.{firstWrong}
-use Rattle.sheet.specs.Sheets.{readSheet, wordsAfter}
-use Rattle.sheet.proofs.Refusals.{reading-refused, form-wrong, form-right}
+use Rattle.grammar.specs.Grammar.{firstWrong}
+use Rattle.grammar.specs.Sheets.{readSheet, wordsAfter}
+use Rattle.grammar.proofs.Refusals.{reading-refused, form-wrong, form-right}
 use Rattle.sheet.proofs.read_sheet.Statement.{statement}
 use Rattle.sheet.proofs.read_sheet.Tie as tie
 

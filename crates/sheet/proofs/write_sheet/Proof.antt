@@ -12,11 +12,11 @@ use Rattle.rows.specs.declared.Refusal.{Refusal}
 use Rattle.rows.specs.Words.{rowCount, sheetOf}
 use Rattle.rows.specs.Checks.{wordsRefusal}
 use Rattle.rows.proofs.Words.{sheet-rows}
-use Rattle.sheet.specs.Grammar.{head, line, sheetLength}
-use Rattle.sheet.specs.Lines.{sheetBytes}
-use Rattle.sheet.specs.Sheets.{betweenRefusal, writeRefusal, writeAnswer, writeSheet, bytesAfter}
-use Rattle.sheet.proofs.Lines.{sheet-bytes-length}
-use Rattle.sheet.proofs.Refusals.{Passed, passed, write-refused, write-accepted}
+use Rattle.grammar.specs.Grammar.{head, line, sheetLength}
+use Rattle.grammar.specs.Lines.{sheetBytes}
+use Rattle.grammar.specs.Sheets.{betweenRefusal, writeRefusal, writeAnswer, writeSheet, bytesAfter}
+use Rattle.grammar.proofs.Lines.{sheet-bytes-length}
+use Rattle.grammar.proofs.Refusals.{Passed, passed, write-refused, write-accepted}
 use Rattle.sheet.proofs.write_sheet.Statement.{statement}
 use Rattle.sheet.proofs.write_sheet.Tie as tie
 

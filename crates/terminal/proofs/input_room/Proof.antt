@@ -1,7 +1,7 @@
 -- The longest sheet announces 255 rows and has 5,362 bytes.
 use mathlib.Core.Path.{refl}
 use native.Mathlib.Omega.{arith}
-use Rattle.sheet.specs.Grammar.{head, line, sheetLength}
+use Rattle.grammar.specs.Grammar.{head, line, sheetLength}
 use Rattle.terminal.proofs.input_room.Statement.{statement}
 use Rattle.terminal.proofs.input_room.Tie as tie
 

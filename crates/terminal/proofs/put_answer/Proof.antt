@@ -6,10 +6,10 @@ use Prim.Native.Nat.{ℕ, _≤_}
 use native.Mathlib.Omega.{arith}
 use lib.ListN.{length, drop}
 use denote.Ref.{now}
-use Rattle.sheet.specs.declared.Written.{Written}
-use Rattle.result.specs.Lines.{head, line, resultLength}
-use Rattle.result.specs.Result.{answerText}
-use Rattle.result.proofs.Answer.{longest-answer, whole-answer}
+use Rattle.grammar.specs.declared.Written.{Written}
+use Rattle.report.specs.Lines.{head, line, resultLength}
+use Rattle.report.specs.Result.{answerText}
+use Rattle.report.proofs.Answer.{longest-answer, whole-answer}
 use Rattle.terminal.proofs.put_answer.Statement.{statement}
 use Rattle.terminal.proofs.put_answer.Tie as tie
 

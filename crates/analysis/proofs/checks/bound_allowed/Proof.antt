@@ -8,7 +8,7 @@ use denote.Ref.{now}
 use borrow.Author.Tests.{lt-leb, le-leb}
 use Rattle.laws.proofs.Choice.{and-fails, and-holds}
 use Rattle.rows.specs.Words.{sheetOf}
-use Rattle.analysis.specs.Question.{boundAllowed}
+use Rattle.refinement.specs.Question.{boundAllowed}
 use native.Mathlib.Omega.{arith}
 use Rattle.analysis.proofs.checks.bound_allowed.Statement.{statement}
 use Rattle.analysis.proofs.checks.bound_allowed.Tie as tie

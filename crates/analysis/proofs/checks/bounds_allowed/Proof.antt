@@ -7,7 +7,7 @@ use borrow.Author.Tests.{not-true, not-false}
 use Rattle.laws.specs.Bits.{every}
 use Rattle.laws.proofs.Bits.{every-more, every-fails}
 use Rattle.rows.specs.Words.{sheetOf}
-use Rattle.analysis.specs.Question.{boundAllowed}
+use Rattle.refinement.specs.Question.{boundAllowed}
 use native.Mathlib.Omega.{arith}
 use Rattle.analysis.proofs.checks.bounds_allowed.Statement.{statement}
 use Rattle.analysis.proofs.checks.bounds_allowed.Tie as tie

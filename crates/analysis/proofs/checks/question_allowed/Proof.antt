@@ -9,7 +9,7 @@ use Rattle.laws.specs.Bits.{every}
 use Rattle.laws.proofs.Choice.{and-fails, and-holds}
 use Rattle.rows.specs.Words.{sheetOf}
 use Rattle.rows.proofs.Words.{sheet-rows}
-use Rattle.analysis.specs.Question.{questionAllowed}
+use Rattle.refinement.specs.Question.{questionAllowed}
 use native.Mathlib.Omega.{arith}
 use Rattle.analysis.proofs.checks.question_allowed.Statement.{statement}
 use Rattle.analysis.proofs.checks.question_allowed.Tie as tie

@@ -5,7 +5,7 @@ use denote.Ref.{now}
 use Rattle.rows.specs.declared.Refusal.{Refusal}
 use Rattle.rows.specs.Checks.{processorsRefusal, methodRefusal, firstOf, wordsRefusal}
 use Rattle.rows.proofs.Checks.{accepted}
-use Rattle.analysis.proofs.Question.{first-checks, refused-first, passed-first}
+use Rattle.refinement.proofs.Question.{first-checks, refused-first, passed-first}
 use Rattle.analysis.proofs.checks.question_refusal.Statement.{statement}
 use Rattle.analysis.proofs.checks.question_refusal.Tie as tie
 

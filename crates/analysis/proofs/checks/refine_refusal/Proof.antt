@@ -6,7 +6,7 @@ use Prim.Native.Nat.{ℕ}
 use Rattle.rows.specs.declared.Refusal.{Refusal}
 use Rattle.rows.specs.Words.{rowCount}
 use Rattle.rows.specs.Checks.{processorsRefusal, methodRefusal, roomRefusal, firstOf, wordsRefusal}
-use Rattle.analysis.specs.Refinement.{refineRefusal}
+use Rattle.refinement.specs.Refinement.{refineRefusal}
 use Rattle.analysis.proofs.checks.refine_refusal.Statement.{statement}
 use Rattle.analysis.proofs.checks.refine_refusal.Tie as tie
 

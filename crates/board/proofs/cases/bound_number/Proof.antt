@@ -1,7 +1,7 @@
 -- `bound_number` gives each case the number that its definition gives it.
 use borrow.Author.Needs.{needs}
 use mathlib.Core.Path.{sym, ap}
-use Rattle.analysis.specs.Question.{boundNumber}
+use Rattle.refinement.specs.Question.{boundNumber}
 use Rattle.board.proofs.cases.bound_number.Statement.{statement}
 use Rattle.board.proofs.cases.bound_number.Tie as tie
 

@@ -1,7 +1,7 @@
 -- `outcome_number` gives each case the number that its definition gives it.
 use borrow.Author.Needs.{needs}
 use mathlib.Core.Path.{sym, ap}
-use Rattle.demand.specs.OneProcessor.{outcomeNumber}
+use Rattle.verdict.specs.OneProcessor.{outcomeNumber}
 use Rattle.board.proofs.cases.outcome_number.Statement.{statement}
 use Rattle.board.proofs.cases.outcome_number.Tie as tie
 

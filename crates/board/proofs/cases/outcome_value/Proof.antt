@@ -1,7 +1,7 @@
 -- `outcome_value` gives each case the length that its definition gives it.
 use borrow.Author.Needs.{needs}
 use mathlib.Core.Path.{sym, ap}
-use Rattle.demand.specs.OneProcessor.{outcomeValue}
+use Rattle.verdict.specs.OneProcessor.{outcomeValue}
 use Rattle.board.proofs.cases.outcome_value.Statement.{statement}
 use Rattle.board.proofs.cases.outcome_value.Tie as tie
 

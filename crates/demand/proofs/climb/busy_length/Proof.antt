@@ -6,8 +6,8 @@ use native.Mathlib.Omega.{arith}
 use Rattle.model.specs.Demand.{busy, busyLength}
 use Rattle.rows.specs.Words.{sheetOf, foundOf}
 use Rattle.laws.proofs.Climb.{Climbed, climbed-first, climbed-more, climbed-found, climbed-past}
-use Rattle.demand.proofs.Busy.{busy-mono}
-use Rattle.demand.proofs.Sound.{busy-from-one}
+use Rattle.verdict.proofs.Busy.{busy-mono}
+use Rattle.verdict.proofs.Sound.{busy-from-one}
 use Rattle.demand.proofs.climb.busy_length.Statement.{statement}
 use Rattle.demand.proofs.climb.busy_length.Tie as tie
 

@@ -10,8 +10,8 @@ use Rattle.model.specs.Sheet.{triples}
 use Rattle.model.specs.Demand.{ceiling, busyOf}
 use Rattle.model.proofs.Sheet.{SizedRow}
 use Rattle.rows.specs.Words.{sheetOf}
-use Rattle.demand.proofs.Busy.{ceiling-from-one, busy-small}
-use Rattle.demand.proofs.Sound.{row-words}
+use Rattle.verdict.proofs.Busy.{ceiling-from-one, busy-small}
+use Rattle.verdict.proofs.Sound.{row-words}
 use Rattle.demand.proofs.climb.busy_part.Statement.{statement}
 use Rattle.demand.proofs.climb.busy_part.Tie as tie
 

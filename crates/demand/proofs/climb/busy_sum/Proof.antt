@@ -8,7 +8,7 @@ use Rattle.laws.specs.Sum.{total}
 use Rattle.laws.proofs.Sum.{total-step}
 use Rattle.model.specs.Demand.{busyOf, busy}
 use Rattle.rows.specs.Words.{sheetOf}
-use Rattle.demand.proofs.Sound.{all-passed, row-given, busy-sum-small}
+use Rattle.verdict.proofs.Sound.{all-passed, row-given, busy-sum-small}
 use Rattle.demand.proofs.climb.busy_sum.Statement.{statement}
 use Rattle.demand.proofs.climb.busy_sum.Tie as tie
 

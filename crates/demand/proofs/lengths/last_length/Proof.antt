@@ -2,7 +2,7 @@
 use mathlib.Core.Path.{sym, ap}
 use borrow.Author.Needs.{needs}
 use Rattle.rows.specs.declared.Found.{Found}
-use Rattle.demand.specs.Inner.{furthest}
+use Rattle.verdict.specs.Inner.{furthest}
 use Rattle.demand.proofs.lengths.last_length.Statement.{statement}
 use Rattle.demand.proofs.lengths.last_length.Tie as tie
 

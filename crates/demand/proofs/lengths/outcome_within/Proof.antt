@@ -8,11 +8,11 @@ use native.Mathlib.Omega.{arith}
 use Rattle.model.specs.Demand.{demandOf, miss}
 use Rattle.model.proofs.Demand.{verdict-fixed}
 use Rattle.rows.specs.Words.{sheetOf}
-use Rattle.demand.specs.OneProcessor.{outcomeOf}
-use Rattle.demand.specs.Inner.{lookOf}
-use Rattle.demand.proofs.Looked.{Looked, Cleared, cleared-first, looked-none, looked-more, looked-over, cleared-next}
-use Rattle.demand.proofs.Sound.{shorter-given, inside, all-passed, positive, row-given, demand-each}
-use Rattle.demand.proofs.Last.{last-bounds, decided}
+use Rattle.verdict.specs.OneProcessor.{outcomeOf}
+use Rattle.verdict.specs.Inner.{lookOf}
+use Rattle.verdict.proofs.Looked.{Looked, Cleared, cleared-first, looked-none, looked-more, looked-over, cleared-next}
+use Rattle.verdict.proofs.Sound.{shorter-given, inside, all-passed, positive, row-given, demand-each}
+use Rattle.verdict.proofs.Last.{last-bounds, decided}
 use Rattle.demand.proofs.lengths.outcome_within.Statement.{statement}
 use Rattle.demand.proofs.lengths.outcome_within.Tie as tie
 

@@ -1,7 +1,7 @@
 -- `demand::lengths::without_miss` meets its contract: case by case.
 use borrow.Author.Needs.{needs}
 use mathlib.Core.Path.{sym, ap}
-use Rattle.demand.specs.Inner.{withoutMiss}
+use Rattle.verdict.specs.Inner.{withoutMiss}
 use Rattle.demand.proofs.lengths.without_miss.Statement.{statement}
 use Rattle.demand.proofs.lengths.without_miss.Tie as tie
 

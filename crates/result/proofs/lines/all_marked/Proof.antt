@@ -6,7 +6,7 @@ use Prim.Native.Nat.{_-_, _≤_}
 use borrow.Author.Tests.{eq-eqb, ne-eqb}
 use Rattle.laws.specs.Bits.{bit, every}
 use Rattle.laws.proofs.Bits.{every-more, every-fails}
-use Rattle.result.specs.Inner.{isSet}
+use Rattle.report.specs.Inner.{isSet}
 use native.Mathlib.Omega.{arith}
 use Rattle.result.proofs.lines.all_marked.Statement.{statement}
 use Rattle.result.proofs.lines.all_marked.Tie as tie

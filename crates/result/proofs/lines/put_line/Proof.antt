@@ -7,7 +7,7 @@ use native.Mathlib.Omega.{arith}
 use lib.ListN.{length}
 use Rattle.digits.specs.Digits.{digits}
 use Rattle.digits.proofs.Line.{Begun, not-begun, with-digits, ended-length, line-ended}
-use Rattle.result.specs.Lines.{lineText}
+use Rattle.report.specs.Lines.{lineText}
 use Rattle.result.proofs.lines.put_line.Statement.{statement}
 use Rattle.result.proofs.lines.put_line.Tie as tie
 

@@ -6,9 +6,9 @@ use mathlib.Core.List.{List, _++_}
 use lib.ListN.{length, drop, length-drop}
 use lib.Seq.{length-take-le}
 use Rattle.laws.proofs.Fill.{front-kept, front-filled}
-use Rattle.result.specs.Lines.{head, line, resultLength, firstLine}
-use Rattle.result.specs.Inner.{linesFrom}
-use Rattle.result.proofs.Text.{line-length, rows-length}
+use Rattle.report.specs.Lines.{head, line, resultLength, firstLine}
+use Rattle.report.specs.Inner.{linesFrom}
+use Rattle.report.proofs.Text.{line-length, rows-length}
 use native.Mathlib.Omega.{arith}
 use Rattle.result.proofs.lines.put_result.Statement.{statement}
 use Rattle.result.proofs.lines.put_result.Tie as tie

@@ -6,9 +6,9 @@ use mathlib.Core.List.{_++_}
 use lib.ListN.{length, drop, length-drop}
 use lib.Seq.{length-take-le}
 use Rattle.laws.specs.Fill.{joined}
-use Rattle.result.specs.Lines.{line, rowLine}
-use Rattle.result.specs.Inner.{lineFrom}
-use Rattle.result.proofs.Text.{row-line-length, rows-length}
+use Rattle.report.specs.Lines.{line, rowLine}
+use Rattle.report.specs.Inner.{lineFrom}
+use Rattle.report.proofs.Text.{row-line-length, rows-length}
 use native.Mathlib.Omega.{arith}
 use Rattle.laws.proofs.Fill.{block-joined, blocks-kept, blocks-fill}
 use Rattle.result.proofs.lines.put_rows.Statement.{statement}

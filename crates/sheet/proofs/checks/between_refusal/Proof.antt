@@ -1,7 +1,7 @@
 -- 4, then 7: the definition, with each check by its own contract.
 use mathlib.Core.Path.{_∙_, ap₂}
 use Rattle.rows.specs.Checks.{firstOf}
-use Rattle.sheet.specs.Sheets.{betweenRefusal}
+use Rattle.grammar.specs.Sheets.{betweenRefusal}
 use Rattle.sheet.proofs.checks.between_refusal.Statement.{statement}
 use Rattle.sheet.proofs.checks.between_refusal.Tie as tie
 

@@ -7,10 +7,10 @@ use borrow.Author.Needs.{needs}
 use lib.ListN.{length, drop}
 use Rattle.laws.specs.Fill.{listed}
 use Rattle.laws.proofs.Fill.{front-put}
-use Rattle.sheet.specs.Grammar.{rowsWritten}
-use Rattle.sheet.specs.Lines.{wordWritten, wordsWritten}
-use Rattle.sheet.specs.Sheets.{formedRefusal}
-use Rattle.sheet.proofs.Refusals.{read-accepted, reading-refused, words-length, judged-words, formed-passed}
+use Rattle.grammar.specs.Grammar.{rowsWritten}
+use Rattle.grammar.specs.Lines.{wordWritten, wordsWritten}
+use Rattle.grammar.specs.Sheets.{formedRefusal}
+use Rattle.grammar.proofs.Refusals.{read-accepted, reading-refused, words-length, judged-words, formed-passed}
 use Rattle.sheet.proofs.reader.judge.Statement.{statement}
 use Rattle.sheet.proofs.reader.judge.Tie as tie
 

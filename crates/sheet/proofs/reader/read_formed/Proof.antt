@@ -6,8 +6,8 @@ use borrow.Author.Needs.{needs}
 use lib.ListN.{length, take, replicate}
 use lib.Seq.{length-take-le}
 use Rattle.rows.specs.Checks.{refused}
-use Rattle.sheet.specs.Sheets.{formedRefusal}
-use Rattle.sheet.proofs.Refusals.{reading-refused, many-refused}
+use Rattle.grammar.specs.Sheets.{formedRefusal}
+use Rattle.grammar.proofs.Refusals.{reading-refused, many-refused}
 use Rattle.sheet.proofs.reader.read_formed.Statement.{statement}
 use Rattle.sheet.proofs.reader.read_formed.Tie as tie
 

@@ -6,8 +6,8 @@ use native.Mathlib.Omega.{arith}
 use lib.ListN.{length, drop, length-set}
 use Rattle.laws.specs.Fill.{listed}
 use Rattle.laws.proofs.Fill.{listed-none, listed-more, listed-all}
-use Rattle.sheet.specs.Grammar.{head, line}
-use Rattle.sheet.specs.Lines.{wordOffset, wordWritten}
+use Rattle.grammar.specs.Grammar.{head, line}
+use Rattle.grammar.specs.Lines.{wordOffset, wordWritten}
 use Rattle.sheet.proofs.reader.read_rows.Statement.{statement}
 use Rattle.sheet.proofs.reader.read_rows.Tie as tie
 

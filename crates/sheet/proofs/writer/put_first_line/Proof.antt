@@ -4,8 +4,8 @@ use Prim.Native.Nat.{_-_}
 use native.Mathlib.Omega.{arith}
 use Rattle.digits.specs.Digits.{digits}
 use Rattle.digits.proofs.Line.{Begun, not-begun, with-digits, end-inside, ended-length, line-ended}
-use Rattle.sheet.specs.Grammar.{head}
-use Rattle.sheet.specs.Lines.{firstLine}
+use Rattle.grammar.specs.Grammar.{head}
+use Rattle.grammar.specs.Lines.{firstLine}
 use Rattle.sheet.proofs.writer.put_first_line.Statement.{statement}
 use Rattle.sheet.proofs.writer.put_first_line.Tie as tie
 

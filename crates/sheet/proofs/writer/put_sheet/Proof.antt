@@ -10,9 +10,9 @@ use Rattle.laws.specs.Fill.{joined}
 use Rattle.laws.proofs.Fill.{front-kept}
 use Rattle.rows.specs.Words.{rowCount, sheetOf}
 use Rattle.rows.proofs.Words.{sheet-rows}
-use Rattle.sheet.specs.Grammar.{head, line, sheetLength}
-use Rattle.sheet.specs.Lines.{firstLine, lineOf}
-use Rattle.sheet.proofs.Lines.{first-line-length, sheet-put}
+use Rattle.grammar.specs.Grammar.{head, line, sheetLength}
+use Rattle.grammar.specs.Lines.{firstLine, lineOf}
+use Rattle.grammar.proofs.Lines.{first-line-length, sheet-put}
 use Rattle.sheet.proofs.writer.put_sheet.Statement.{statement}
 use Rattle.sheet.proofs.writer.put_sheet.Tie as tie
 

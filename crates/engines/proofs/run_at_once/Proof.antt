@@ -1,0 +1,80 @@
+-- `run_at_once` starts from the deadlines, which are ready and hold what bounds on the way hold.
+use borrow.Author.Needs.{needs}
+use mathlib.Core.Path.{_≡_, refl, sym}
+use denote.Ref.{now}
+use Prim.Native.Nat.{ℕ}
+use lib.ListN.{length, take, replicate}
+use lib.Seq.{length-take-le}
+use native.Mathlib.Omega.{arith}
+use Rattle.model.proofs.Refine.{deadlines-held}
+use Rattle.rows.specs.Words.{sheetOf}
+use Rattle.refinement.proofs.Steps.{ask-regular}
+use Rattle.refinement.proofs.Refinement.{deadlines-ready}
+use Rattle.engines.proofs.run_at_once.Statement.{statement}
+use Rattle.engines.proofs.run_at_once.Tie as tie
+
+fill-deadlines-requires : tie.Need-fill-deadlines-requires
+fill-deadlines-requires c κs = search needs
+
+array-borrow-prefix-before : tie.Need-array-borrow-prefix-before
+array-borrow-prefix-before c = search needs
+
+-- One word of the space for each row.
+space : (s : tie.Start) → length (take (s .args .count) (replicate {A = ℕ} 64 0)) ≡ s .args .count
+space s = length-take-le (s .args .count) (replicate 64 0) (omega (arith, s .pre .1, s .pre .0 .at-most))
+
+slice-aggregate-settle-at-once : tie.Need-slice-aggregate-settle-at-once
+slice-aggregate-settle-at-once c = sym (space (c .before .before .before .before .before .before .before .before))
+
+array-borrow-prefix-drops : tie.Need-array-borrow-prefix-drops
+array-borrow-prefix-drops c = search needs
+
+slice-aggregate-settle-at-once-2 : tie.Need-slice-aggregate-settle-at-once-2
+slice-aggregate-settle-at-once-2 c = sym (space (c .before .before .before .before .before .before .before .before .before))
+
+slice-aggregate-settle-at-once-3 : tie.Need-slice-aggregate-settle-at-once-3
+slice-aggregate-settle-at-once-3 c = refl
+
+array-borrow-prefix-room : tie.Need-array-borrow-prefix-room
+array-borrow-prefix-room c = search needs
+
+slice-aggregate-settle-at-once-4 : tie.Need-slice-aggregate-settle-at-once-4
+slice-aggregate-settle-at-once-4 c = sym (space (c .before .before .before .before .before .before .before .before .before .before .before))
+
+settle-at-once-requires : tie.Need-settle-at-once-requires
+settle-at-once-requires c κs =
+    let p = c .before .before .before .before .before .before .before .before .before .before .before in
+    let words = now (p .args .words) in
+    rw (c .before .before .before .before .before .before .before .fill-deadlines .ensures) (
+      deadlines-ready words (p .pre .0),
+      p .pre .1,
+      p .pre .2,
+      deadlines-held (sheetOf words) _ (ask-regular words (p .args .processors) (p .args .method)),
+      space p,
+      space p,
+      p .pre .4,
+      refl,
+      space p,
+    )
+
+same-length : tie.Need-same-length
+same-length c = search needs
+
+returns : tie.Need-returns
+returns c = search needs
+
+pub run-at-once-spec : {M : Type 1} → statement M
+run-at-once-spec =
+    tie.close
+    (tie.spec
+    fill-deadlines-requires
+    array-borrow-prefix-before
+    slice-aggregate-settle-at-once
+    array-borrow-prefix-drops
+    slice-aggregate-settle-at-once-2
+    slice-aggregate-settle-at-once-3
+    array-borrow-prefix-room
+    slice-aggregate-settle-at-once-4
+    settle-at-once-requires
+    same-length
+    returns)

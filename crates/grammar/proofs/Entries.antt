@@ -1,0 +1,163 @@
+-- What reading and writing return and leave behind, by what the input is: not refused exactly where everything asked for holds, and
+-- refusal 1 exactly where the bytes break the form, at the place where they do.
+use mathlib.Core.Path.{_≡_, refl, sym, _∙_, ap}
+use mathlib.Core.Bool.{Bool, true, false, not}
+use mathlib.Core.List.{List, _++_}
+use mathlib.Core.Option.{Option, none, some}
+use Prim.Native.Nat.{ℕ, _*_}
+use native.Mathlib.Omega.{arith}
+use borrow.Author.Tests.{eqb-true}
+use lib.Dec.{eqb, ltb}
+use lib.ListN.{length, drop}
+use Rattle.laws.specs.Choice.{pick, unlessRefused}
+use Rattle.laws.proofs.Fill.{front-put}
+use Rattle.model.specs.Sheet.{processorsAllowed}
+use Rattle.rows.specs.declared.Refusal.{Refusal}
+use Rattle.rows.specs.Words.{rowCount, sheetOf, firstOutside}
+use Rattle.rows.specs.Checks.{refused, notRefused, notRows, tooMany, processorsRefusal, roomRefusal, firstOf, rowsRefusal, wordsRefusal}
+use Rattle.grammar.specs.declared.Read.{Read}
+use Rattle.grammar.specs.declared.Written.{Written}
+use Rattle.grammar.specs.Grammar.{sheetLength, processorsWritten, rowsWritten, firstWrong}
+use Rattle.grammar.specs.Lines.{sheetBytes, wordsWritten}
+use Rattle.grammar.specs.Meaning.{Formed, Breaks}
+use Rattle.grammar.specs.Sheets.{betweenRefusal, formedRefusal, formRefusal, readRefusal, readRefused, readAnswer, readSheet, wordsAfter, writeRefusal, writeAnswer, writeSheet, bytesAfter}
+use Rattle.grammar.proofs.Meaning.{form-means, form-fixed}
+use Rattle.grammar.proofs.Refusals.{Passed, passed, passes, read-refused, read-accepted, write-accepted, form-wrong, form-right}
+
+-- A row outside the sizes allowed is no refusal 1.
+rows-not-one : (row : Option ℕ) → (rowsRefusal row) .number ≡ 1 → ⊥
+unfolding rowsRefusal
+rows-not-one none one = omega arith
+rows-not-one (some row) one = omega arith
+
+-- An answer that carries the refusal's number, 0 where there is none, carries it either way.
+number-kept : {A : Type 0} (carried : A → ℕ) (number : ℕ) (refused worked : A) → carried refused ≡ number → carried worked ≡ 0
+    → carried (unlessRefused number refused worked) ≡ number
+unfolding unlessRefused
+number-kept {A} carried number refused worked carries zero = split (eqb number 0) refl
+  where
+    split : (b : Bool) → eqb number 0 ≡ b → carried (pick b worked refused) ≡ number
+    split true is-zero = zero ∙ sym (eqb-true number 0 is-zero)
+    split false not-zero = carries
+
+pub read-number : (bytes : List ℕ) (room : ℕ) → (readSheet bytes room) .refusal ≡ (readRefusal bytes room) .number
+unfolding readSheet readAnswer
+read-number bytes room = number-kept {A = Read} (λ r. r .refusal) ((readRefusal bytes room) .number) _ _ refl refl
+
+pub write-number : (words : List ℕ) (processors room : ℕ) → (writeSheet words processors room) .refusal ≡ (writeRefusal words processors room) .number
+unfolding writeSheet writeAnswer
+write-number words processors room =
+    number-kept {A = Written} (λ r. r .refusal) ((writeRefusal words processors room) .number) _ _ refl refl
+
+-- What is asked of a sheet that is read: the form, sound rows, allowed processors, and room for three words a row.
+pub record Readable (bytes : List ℕ) (room : ℕ) : Type 0 where
+  pub formed : Formed bytes
+  pub passed : Passed (wordsWritten bytes) (processorsWritten bytes) room (3 * rowsWritten bytes)
+
+-- A reading that is not refused found all of it; and where all of it holds there is no refusal.
+formed-only : (later : Refusal) (r : Option ℕ) → (formRefusal r later) .number ≡ 0 → (r ≡ none) × (later .number ≡ 0)
+unfolding formRefusal
+formed-only later none none-holds = (refl, none-holds)
+formed-only later (some place) none-holds = absurd (omega arith)
+
+pub read-found : (bytes : List ℕ) (room : ℕ) → (readSheet bytes room) .refusal ≡ 0 → Readable bytes room
+unfolding readRefusal formedRefusal
+read-found bytes room none-holds =
+    let both = formed-only (formedRefusal bytes room) (firstWrong bytes) (sym (read-number bytes room) ∙ none-holds) in
+    record {
+      formed = rw (both .0) at (form-means bytes);
+      passed = passed (wordsWritten bytes) (processorsWritten bytes) room (3 * rowsWritten bytes) (both .1);
+    }
+
+readable : (bytes : List ℕ) (room : ℕ) → Readable bytes room → readRefusal bytes room ≡ notRefused
+unfolding formedRefusal
+readable bytes room facts =
+    form-right bytes room (form-fixed bytes none (facts .formed))
+    ∙ passes (wordsWritten bytes) (processorsWritten bytes) room (3 * rowsWritten bytes) (facts .passed)
+
+-- What a readable sheet returns and leaves in the lent words.
+pub read-answers : (bytes : List ℕ) (room : ℕ) → Readable bytes room
+    → readSheet bytes room ≡ record { refusal = 0; place = 0; processors = processorsWritten bytes; rows = rowsWritten bytes }
+unfolding readSheet
+read-answers bytes room facts = sym (read-accepted (readRefusal bytes room) bytes (ap (λ (f : Refusal). f .number) (readable bytes room facts)))
+
+pub read-leaves : (bytes words : List ℕ) → Readable bytes (length words)
+    → wordsAfter bytes words ≡ wordsWritten bytes ++ drop (length (wordsWritten bytes)) words
+unfolding wordsAfter
+read-leaves bytes words facts =
+    sym
+    (front-put ((readRefusal bytes (length words)) .number) (wordsWritten bytes) words
+    (ap (λ (f : Refusal). f .number) (readable bytes (length words) facts)))
+
+-- The same of writing: sound rows, allowed processors, and room for the sheet.
+abbrev pub Writable : List ℕ → ℕ → ℕ → Type 0
+Writable words processors room = Passed words processors room (sheetLength (rowCount words))
+
+pub write-found : (words : List ℕ) (processors room : ℕ) → (writeSheet words processors room) .refusal ≡ 0 → Writable words processors room
+unfolding writeRefusal
+write-found words processors room none-holds =
+    passed words processors room (sheetLength (rowCount words)) (sym (write-number words processors room) ∙ none-holds)
+
+writable : (words : List ℕ) (processors room : ℕ) → Writable words processors room → writeRefusal words processors room ≡ notRefused
+unfolding writeRefusal
+writable words processors room facts = passes words processors room (sheetLength (rowCount words)) facts
+
+pub write-answers : (words : List ℕ) (processors room : ℕ) → Writable words processors room
+    → writeSheet words processors room ≡ record { refusal = 0; place = 0; length = sheetLength (rowCount words) }
+unfolding writeSheet
+write-answers words processors room facts =
+    sym
+    (write-accepted (writeRefusal words processors room) (sheetLength (rowCount words))
+    (ap (λ (f : Refusal). f .number) (writable words processors room facts)))
+
+pub write-leaves : (words : List ℕ) (processors : ℕ) (out : List ℕ) → Writable words processors (length out)
+    → let sheet = sheetBytes (sheetOf words) processors in
+    bytesAfter words processors out ≡ sheet ++ drop (length sheet) out
+unfolding bytesAfter
+write-leaves words processors out facts =
+    sym
+    (front-put ((writeRefusal words processors (length out)) .number) (sheetBytes (sheetOf words) processors) out
+    (ap (λ (f : Refusal). f .number) (writable words processors (length out) facts)))
+
+-- No check after the form has number 1.
+between-not-one : (processors room need : ℕ) → betweenRefusal processors room need ≡ 1 → ⊥
+unfolding betweenRefusal firstOf processorsRefusal roomRefusal
+between-not-one processors room need = split (processorsAllowed processors) (ltb room need)
+  where
+    split : (allowed short : Bool) → _≡_ {A = ℕ} (pick (eqb (pick allowed 0 4) 0) (pick short 7 0) (pick allowed 0 4)) 1 → ⊥
+    split true true one = omega arith
+    split true false one = omega arith
+    split false short one = omega arith
+
+later-not-one : (words : List ℕ) (between : ℕ) → (between ≡ 1 → ⊥) → (wordsRefusal words between) .number ≡ 1 → ⊥
+unfolding wordsRefusal
+later-not-one words between other = split (notRows words) (tooMany words) (not (eqb between 0)) (firstOutside (sheetOf words))
+  where
+    split : (shapeless many holds : Bool) (row : Option ℕ)
+        → (pick shapeless (refused 2 0) (pick many (refused 3 0) (pick holds (refused between 0) (rowsRefusal row)))) .number ≡ 1 → ⊥
+    split true many holds row one = omega arith
+    split false true holds row one = omega arith
+    split false false true row one = other one
+    split false false false row one = rows-not-one row one
+
+-- Wherever the bytes break the form, refusal 1 is given, and the place is where they do.
+pub broken-refused : (bytes : List ℕ) (room place : ℕ) → Breaks bytes place → readSheet bytes room ≡ readRefused 1 place
+unfolding readSheet
+broken-refused bytes room place breaks =
+    ap (λ (f : Refusal). readAnswer f bytes) (form-wrong bytes room place (form-fixed bytes (some place) breaks))
+    ∙ sym (read-refused (refused 1 place) bytes (λ none-holds. omega arith))
+
+-- And nowhere else is it given.
+pub read-broken : (bytes : List ℕ) (room : ℕ) → (readSheet bytes room) .refusal ≡ 1 → Breaks bytes ((readSheet bytes room) .place)
+unfolding formedRefusal
+read-broken bytes room one = split (firstWrong bytes) refl
+  where
+    split : (r : Option ℕ) → firstWrong bytes ≡ r → Breaks bytes ((readSheet bytes room) .place)
+    split none right =
+        absurd
+        (later-not-one (wordsWritten bytes) (betweenRefusal (processorsWritten bytes) room (3 * rowsWritten bytes))
+        (between-not-one (processorsWritten bytes) room (3 * rowsWritten bytes))
+        (rw (form-right bytes room right) at (sym (read-number bytes room) ∙ one)))
+    split (some place) wrong =
+        let breaks : Breaks bytes place = rw wrong at (form-means bytes) in
+        rw (broken-refused bytes room place breaks) breaks

@@ -1,0 +1,73 @@
+-- The round trips, over what the two entries return and leave behind: a sheet that was read and is written comes back byte for byte, and
+-- rows that were written and are read come back word for word, with the same processors.
+use mathlib.Core.Path.{_≡_, sym, _∙_, ap, ap₂}
+use mathlib.Core.List.{List, _++_}
+use Prim.Native.Nat.{ℕ, _*_, _≤_}
+use native.Mathlib.Omega.{arith}
+use lib.ListN.{length, take, drop}
+use lib.Seq.{take-at}
+use Rattle.rows.specs.Words.{rowCount, sheetOf}
+use Rattle.rows.proofs.Words.{sheet-rows}
+use Rattle.grammar.specs.Grammar.{sheetLength, processorsWritten, rowsWritten}
+use Rattle.grammar.specs.Lines.{sheetBytes, wordsWritten}
+use Rattle.grammar.specs.Sheets.{readSheet, wordsAfter, writeSheet, bytesAfter}
+use Rattle.grammar.proofs.Lines.{sheet-bytes-length}
+use Rattle.grammar.proofs.Refusals.{words-length, words-rows}
+use Rattle.grammar.proofs.ReadBack.{sheet-back}
+use Rattle.grammar.proofs.WriteBack.{processors-same, rows-same, words-same, sound-formed}
+use Rattle.grammar.proofs.Entries.{Readable, Writable, read-found, read-answers, read-leaves, write-found, write-answers, write-leaves}
+
+-- A sheet that is not refused, read into any words and written into any space that holds it, comes back byte for byte.
+pub read-then-written : (bytes words out : List ℕ) → (readSheet bytes (length words)) .refusal ≡ 0 → length bytes ≤ length out
+    → let r = readSheet bytes (length words) in
+    let rows = take (3 * r .rows) (wordsAfter bytes words) in
+    (writeSheet rows (r .processors) (length out) ≡ record { refusal = 0; place = 0; length = length bytes })
+    × (bytesAfter rows (r .processors) out ≡ bytes ++ drop (length bytes) out)
+read-then-written bytes words out none-holds room =
+    let facts : Readable bytes (length words) = read-found bytes (length words) none-holds in
+    let size : sheetLength (rowCount (wordsWritten bytes)) ≡ length bytes = ap sheetLength (words-rows bytes) ∙ sym (facts .formed .whole) in
+    let fits : Writable (wordsWritten bytes) (processorsWritten bytes) (length out) =
+    record { sound = facts .passed .sound; allowed = facts .passed .allowed; enough = rw size room } in
+    rw (
+      read-answers bytes (length words) facts,
+      read-leaves bytes words facts,
+      take-at (wordsWritten bytes) (drop (length (wordsWritten bytes)) words) (3 * rowsWritten bytes) (words-length bytes),
+    ) (
+      write-answers (wordsWritten bytes) (processorsWritten bytes) (length out) fits ∙ ap (λ (n : ℕ). record { refusal = 0; place = 0; length = n }) size,
+      write-leaves (wordsWritten bytes) (processorsWritten bytes) out fits
+          ∙ ap (λ (l : List ℕ). l ++ drop (length l) out) (sheet-back bytes (facts .formed)),
+    )
+
+-- Rows that are not refused, written into any space and read into any words that hold them, come back the same, with the same processors.
+pub written-then-read : (words : List ℕ) (processors : ℕ) (out space : List ℕ) → (writeSheet words processors (length out)) .refusal ≡ 0
+    → length words ≤ length space
+    → let bytes = take ((writeSheet words processors (length out)) .length) (bytesAfter words processors out) in
+    (readSheet bytes (length space) ≡ record { refusal = 0; place = 0; processors = processors; rows = rowCount words })
+    × (wordsAfter bytes space ≡ words ++ drop (length words) space)
+written-then-read words processors out space none-holds room =
+    let facts : Writable words processors (length out) = write-found words processors (length out) none-holds in
+    let sheet = sheetBytes (sheetOf words) processors in
+    let size : length sheet ≡ sheetLength (rowCount words) = sheet-bytes-length (sheetOf words) processors ∙ ap sheetLength (sheet-rows words) in
+    let line-one : processorsWritten sheet ≡ processors = processors-same words processors (facts .sound) (facts .allowed) in
+    let count : rowsWritten sheet ≡ rowCount words = rows-same words processors (facts .sound) in
+    let same : wordsWritten sheet ≡ words = words-same words processors (facts .sound) in
+    let whole : length words ≡ 3 * rowCount words = facts .sound .whole in
+    let fits : Readable sheet (length space) =
+    record {
+      formed = sound-formed words processors (facts .sound);
+      passed =
+          record {
+            sound = rw same (facts .sound);
+            allowed = rw line-one (facts .allowed);
+            enough = rw count (omega arith);
+          };
+    } in
+    rw (
+      write-answers words processors (length out) facts,
+      write-leaves words processors out facts,
+      take-at sheet (drop (length sheet) out) (sheetLength (rowCount words)) size,
+    ) (
+      read-answers sheet (length space) fits
+          ∙ ap₂ (λ (m n : ℕ). record { refusal = 0; place = 0; processors = m; rows = n }) line-one count,
+      read-leaves sheet space fits ∙ ap (λ (l : List ℕ). l ++ drop (length l) space) same,
+    )

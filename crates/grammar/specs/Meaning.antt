@@ -1,0 +1,52 @@
+-- What refusal 1 and its place mean, in plain words.
+use mathlib.Core.Path.{_≡_}
+use mathlib.Core.Bool.{true, false}
+use mathlib.Core.List.{List}
+use mathlib.Core.Logic.{_⊎_}
+use mathlib.Core.Option.{Option, none, some}
+use Prim.Native.Nat.{ℕ, suc, _≤_, _<_}
+use lib.ListN.{length, getD}
+use Rattle.grammar.specs.Grammar.{sheetLength, sheetAllows, rowsWritten}
+
+-- The bytes have the line form: they are as many as they announce, and each may stand where it stands.
+pub record Formed (bytes : List ℕ) : Type 0 where
+  pub whole : length bytes ≡ sheetLength (rowsWritten bytes)
+  pub each : (i : ℕ) → i < length bytes → sheetAllows (rowsWritten bytes) i (getD bytes i 0) ≡ true
+
+-- The bytes end at a place, short of the length that they announce.
+pub record EndsAt (bytes : List ℕ) (place : ℕ) : Type 0 where
+  pub end : place ≡ length bytes
+  pub short : place < sheetLength (rowsWritten bytes)
+
+-- A byte stands at a place where it may not.
+pub record WrongByteAt (bytes : List ℕ) (place : ℕ) : Type 0 where
+  pub inside : place < length bytes
+  pub refused : sheetAllows (rowsWritten bytes) place (getD bytes place 0) ≡ false
+
+-- The bytes break the line form at a place: each byte before it may stand where it stands, and at it they end or a wrong byte stands.
+pub record Breaks (bytes : List ℕ) (place : ℕ) : Type 0 where
+  pub reached : place ≤ length bytes
+  pub before : (i : ℕ) → i < place → sheetAllows (rowsWritten bytes) i (getD bytes i 0) ≡ true
+  pub here : EndsAt bytes place ⊎ WrongByteAt bytes place
+
+-- What the first wrong offset means, none included.
+abbrev pub FormMeans : List ℕ → Option ℕ → Type 0
+FormMeans bytes none = Formed bytes
+FormMeans bytes (some place) = Breaks bytes place
+
+-- Two lists of bytes have the same bytes below a place.
+abbrev pub AlikeBelow : List ℕ → List ℕ → ℕ → Type 0
+AlikeBelow bytes other place = (i : ℕ) → i < place → getD other i 0 ≡ getD bytes i 0
+
+-- A sheet of the form that has the bytes below a place.
+pub record SheetWith (bytes : List ℕ) (place : ℕ) : Type 0 where
+  pub sheet : List ℕ
+  pub formed : Formed sheet
+  pub long : place ≤ length sheet
+  pub alike : AlikeBelow bytes sheet place
+
+-- The place tells how far the bytes could have been the front of a sheet: some sheet has all bytes below it, and none has the byte at it
+-- too.
+pub record FarAs (bytes : List ℕ) (place : ℕ) : Type 0 where
+  pub some-sheet : SheetWith bytes place
+  pub no-sheet : place < length bytes → (sheet : List ℕ) → Formed sheet → place < length sheet → AlikeBelow bytes sheet (suc place) → ⊥

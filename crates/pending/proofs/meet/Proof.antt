@@ -1,0 +1,218 @@
+-- `meet` takes in row by row: a share above 1 is one more row, any other is settled.
+use borrow.Author.Needs.{needs}
+use native.Mathlib.Omega.{arith}
+use mathlib.Core.Path.{_≡_, refl, _∙_, sym}
+use mathlib.Core.Logic.{⊎-elim}
+use Prim.Native.Nat.{ℕ, _+_, _*_, _-_, _≤_, _<_}
+use lib.ListN.{getD}
+use denote.Ref.{now}
+use Rattle.laws.specs.Sum.{total}
+use Rattle.laws.proofs.Sum.{total-step}
+use Rattle.model.specs.Sheet.{triples}
+use Rattle.model.specs.Interference.{share, work, workOf}
+use Rattle.rows.specs.Words.{rowCount, sheetOf}
+use Rattle.rows.proofs.Words.{deadline-word}
+use Rattle.rows.proofs.Checks.{sound-row}
+use Rattle.refinement.specs.Kept.{termFrom, KeptNumbers, KeptRows, keptSum, metTerm}
+use Rattle.refinement.proofs.Limits.{share-within}
+use Rattle.refinement.proofs.Sizes.{sizes}
+use Rattle.refinement.proofs.Kept.{rows-same, rows-more, sum-more, sum-settled, small-share}
+use Rattle.pending.proofs.meet.Statement.{statement}
+use Rattle.pending.proofs.meet.Tie as tie
+
+abbrev Inv-loop : tie.InvT-loop
+Inv-loop words bounds from to window others₀ settled₀ left₀ place₀ others settled left place =
+    (from ≤ place)
+    × (place ≤ to)
+    × KeptRows others left
+    × (settled + left * 1_000_000 ≤ place * 1_000_000)
+    × ((x cap : ℕ)
+    → 1 ≤ x
+    → 1 ≤ cap
+    → keptSum others left settled x cap + total (metTerm (sheetOf words) bounds window x cap) from
+    ≡ keptSum others₀ left₀ settled₀ x cap + total (metTerm (sheetOf words) bounds window x cap) place)
+
+abbrev μ-loop : tie.MeasureT-loop
+μ-loop words bounds from to window others₀ settled₀ left₀ place₀ others settled left place = to - place
+
+loop-holds : tie.Need-loop-holds Inv-loop μ-loop
+loop-holds c = (omega arith, c .before .before .before .pre .1, c .before .before .before .pre .4, c .before .before .before .pre .5, λ x cap window some-cap. refl)
+
+-- The place is a row's.
+inside : (c : tie.In-loop Inv-loop μ-loop) → c .before .loop .place < rowCount (now (c .before .before .before .before .before .args .words))
+inside c = omega (arith, c .before .before .before .before .before .pre .2)
+
+cast-row : tie.Need-cast-row Inv-loop μ-loop
+cast-row c = omega (arith, inside c, c .before .before .before .before .before .pre .0 .rows .at-most)
+
+mul-row : tie.Need-mul-row Inv-loop μ-loop
+mul-row c = omega (arith, inside c, c .before .before .before .before .before .pre .0 .rows .at-most)
+
+mul-own : tie.Need-mul-own Inv-loop μ-loop
+mul-own c = search needs
+
+shared-slice-read-own : tie.Need-shared-slice-read-own Inv-loop μ-loop
+shared-slice-read-own c = search needs
+
+add-period : tie.Need-add-period Inv-loop μ-loop
+add-period c = search needs
+
+mul-period : tie.Need-mul-period Inv-loop μ-loop
+mul-period c = search needs
+
+shared-slice-read-period : tie.Need-shared-slice-read-period Inv-loop μ-loop
+shared-slice-read-period c = search needs
+
+cast-bound : tie.Need-cast-bound Inv-loop μ-loop
+cast-bound c = search needs
+
+mul-bound : tie.Need-mul-bound Inv-loop μ-loop
+mul-bound c = search needs
+
+shared-slice-read-bound : tie.Need-shared-slice-read-bound Inv-loop μ-loop
+shared-slice-read-bound c = search needs
+
+add-share-in-window : tie.Need-add-share-in-window Inv-loop μ-loop
+add-share-in-window c = search needs
+
+mul-share-in-window : tie.Need-mul-share-in-window Inv-loop μ-loop
+mul-share-in-window c = search needs
+
+shared-slice-read-share-in-window : tie.Need-shared-slice-read-share-in-window Inv-loop μ-loop
+shared-slice-read-share-in-window c = search needs
+
+share-in-window-requires : tie.Need-share-in-window-requires Inv-loop μ-loop
+share-in-window-requires c κs = let p = c .before .before .before .before .before .before .before .before .before in let q = c .before .before .before .before .before .loop in let known = sizes _ _ (p .pre .0) (q .place) (inside (c .before .before .before .before)) in
+    let sized = sound-row (now (p .args .words)) (p .pre .0 .rows) (q .place) (inside (c .before .before .before .before)) in
+    let deadline = deadline-word (now (p .args .words)) (q .place) in
+    omega (arith, known .some-cost, known .by-period, known .small, p .pre .3)
+
+rise-of-requires : tie.Need-rise-of-requires Inv-loop μ-loop
+rise-of-requires c κs = search needs
+
+sub-put-row : tie.Need-sub-put-row Inv-loop μ-loop
+sub-put-row c = let p = c .before .before .before .before .before .before .before .before .before .before .before .before in let q = c .before .before .before .before .before .before .before .before .loop in let known = sizes _ _ (p .pre .0) (q .place) (inside (c .before .before .before .before .before .before .before)) in omega (arith, known .from-cost)
+
+-- The numbers of the row are as an allowed row has them.
+numbers : (c : tie.After-rise-of Inv-loop μ-loop) → let p = c .before .before .before .before .before .before .before .before .before .before .before in
+    let words = now (p .args .words) in
+    let i = c .before .before .before .before .before .before .before .loop .place in
+    KeptNumbers (getD words (3 * i) 0) (getD words (3 * i + 2) 0) (getD (now (p .args .bounds)) i 0 - getD words (3 * i) 0) (c .before .share-in-window .result) (c .rise-of .result)
+numbers c =
+    let p = c .before .before .before .before .before .before .before .before .before .before .before in
+    let i = c .before .before .before .before .before .before .before .loop .place in
+    let words = now (p .args .words) in
+    let known = sizes _ _ (p .pre .0) i (inside (c .before .before .before .before .before .before)) in
+    let small : c .before .share-in-window .result ≤ 1_000_000 =
+    omega (arith, c .before .share-in-window .ensures, share-within (getD words (3 * i) 0) (getD words (3 * i + 1) 0) (getD words (3 * i + 2) 0) (getD (now (p .args .bounds)) i 0) (p .args .window) (known .by-period), p .pre .3) in
+    record {
+      some-cost = known .some-cost;
+      by-period = known .by-period;
+      small-period = known .small;
+      small-ahead = omega (arith, known .by-limit);
+      small-share = small;
+      small-rise = omega (arith, c .rise-of .ensures .1, known .by-period, known .small);
+      comes = c .rise-of .ensures .0;
+    }
+
+-- What it adds is one more of what the rows add.
+gathered : (c : tie.After-rise-of Inv-loop μ-loop) (x cap : ℕ) → 1 ≤ x → 1 ≤ cap → let p = c .before .before .before .before .before .before .before .before .before .before .before in
+    let q = c .before .before .before .before .before .before .before .loop in
+    let words = now (p .args .words) in
+    let own = getD words (3 * q .place) 0 in
+    keptSum (q .others) (q .left) (q .settled) x cap + termFrom own (getD words (3 * q .place + 2) 0) (getD (now (p .args .bounds)) (q .place) 0 - own) (c .before .share-in-window .result) x cap + total (metTerm (sheetOf words) (now (p .args .bounds)) (p .args .window) x cap) (p .args .from)
+    ≡ keptSum (now (p .args .others)) (p .args .before .left) (p .args .before .settled) x cap + total (metTerm (sheetOf words) (now (p .args .bounds)) (p .args .window) x cap) (q .place + 1)
+unfolding metTerm workOf work sheetOf triples
+gathered c x cap window some-cap =
+    let p = c .before .before .before .before .before .before .before .before .before .before .before in
+    let q = c .before .before .before .before .before .before .before .loop in
+    let words = now (p .args .words) in
+    let own = getD words (3 * q .place) 0 in
+    let bound = getD (now (p .args .bounds)) (q .place) 0 in
+    let known = sizes _ _ (p .pre .0) (q .place) (inside (c .before .before .before .before .before .before)) in
+    let time : x + (bound - own) ≡ x + bound - own = omega (arith, known .from-cost) in
+    let term : termFrom own (getD words (3 * q .place + 2) 0) (bound - own) (c .before .share-in-window .result) x cap ≡ metTerm (sheetOf words) (now (p .args .bounds)) (p .args .window) x cap (q .place) =
+    rw (time, c .before .share-in-window .ensures) in
+    omega (arith, q .inv .4 x cap window some-cap, total-step (metTerm (sheetOf words) (now (p .args .bounds)) (p .args .window) x cap) (q .place), term)
+
+put-row-requires : tie.Need-put-row-requires Inv-loop μ-loop
+put-row-requires c κs = (c .before .before .before .before .before .before .before .before .loop .inv .2 .sized, omega (arith, c .before .before .before .before .before .before .before .before .loop .inv .3, inside (c .before .before .before .before .before .before .before), c .before .before .before .before .before .before .before .before .before .before .before .before .pre .0 .rows .at-most))
+
+add-left : tie.Need-add-left Inv-loop μ-loop
+add-left c = omega (arith, c .before .before .before .before .before .before .before .before .before .before .before .before .loop .inv .2 .few)
+
+add-settled : tie.Need-add-settled Inv-loop μ-loop
+add-settled c = omega (arith, c .before .before .before .before .before .before .before .before .before .before .before .before .loop .inv .3, inside (c .before .before .before .before .before .before .before .before .before .before .before), c .before .before .before .before .before .before .before .before .before .before .before .before .before .before .before .before .pre .0 .rows .at-most, c .if1 .left)
+
+add-place : tie.Need-add-place Inv-loop μ-loop
+add-place c = search needs
+
+loop-less : tie.Need-loop-less Inv-loop μ-loop
+loop-less c = search needs
+
+loop-again : tie.Need-loop-again Inv-loop μ-loop
+loop-again c =
+    let p = c .before .before .before .before .before .before .before .before .before .before .before .before .before .before .before .before in
+    let q = c .before .before .before .before .before .before .before .before .before .before .before .before .loop in
+    let put = c .before .before .before .put-row .ensures in
+    let place : q .left < 64 = omega (arith, q .inv .3, inside (c .before .before .before .before .before .before .before .before .before .before .before), p .pre .0 .rows .at-most) in
+    let words = now (p .args .words) in
+    let own = getD words (3 * q .place) 0 in
+    let period = getD words (3 * q .place + 2) 0 in
+    let ahead = getD (now (p .args .bounds)) (q .place) 0 - own in
+    let taken = c .before .before .before .before .before .before .share-in-window .result in
+    let rise = c .before .before .before .before .before .rise-of .result in
+    let row = numbers (c .before .before .before .before .before) in (
+      omega (arith, q .inv .0),
+      omega arith,
+      ⊎-elim (λ w. rw (w .2, put) (rows-more (q .others) (q .left) own period ahead taken rise (q .inv .2) place row))
+          (λ w. rw (w .2, put) (rows-same (q .others) (q .left) own period ahead taken rise (q .inv .2) place)) (c .if1 .came),
+      ⊎-elim (λ w. omega (arith, w .1, w .2, q .inv .3)) (λ w. omega (arith, w .0 .left, w .1, w .2, q .inv .3)) (c .if1 .came),
+      λ x cap window some-cap.
+          ⊎-elim (λ w. rw (w .1, w .2, put) (omega (arith, sum-more (q .others) (q .left) own period ahead taken rise (q .inv .2) place (q .settled) x cap, gathered (c .before .before .before .before .before) x cap window some-cap)))
+          (λ w. rw (w .1, w .2, put)
+          (omega (arith, sum-settled (q .others) (q .left) own period ahead taken rise (q .inv .2) place (q .settled) x cap (small-share own period ahead taken x cap (row .some-cost) window some-cap (omega (arith, w .0 .left))), gathered (c .before .before .before .before .before) x cap window some-cap)))
+          (c .if1 .came),
+    )
+
+same-length : tie.Need-same-length Inv-loop μ-loop
+same-length c = c .before .loop .inv .2 .sized ∙ sym (c .before .before .before .before .before .pre .4 .sized)
+
+returns : tie.Need-returns Inv-loop μ-loop
+returns c =
+    let p = c .before .before .before .before .before in
+    let q = c .before .loop in
+    let done : q .place ≡ p .args .to = omega (arith, q .inv .1) in
+    (q .inv .2, (omega (arith, q .inv .3), λ x cap window some-cap. rw (← done) (q .inv .4 x cap window some-cap)))
+
+pub meet-spec : {M : Type 1} → statement M
+meet-spec =
+    tie.close
+    (tie.spec
+    Inv-loop
+    μ-loop
+    loop-holds
+    cast-row
+    mul-row
+    mul-own
+    shared-slice-read-own
+    add-period
+    mul-period
+    shared-slice-read-period
+    cast-bound
+    mul-bound
+    shared-slice-read-bound
+    add-share-in-window
+    mul-share-in-window
+    shared-slice-read-share-in-window
+    share-in-window-requires
+    rise-of-requires
+    sub-put-row
+    put-row-requires
+    add-left
+    add-settled
+    add-place
+    loop-less
+    loop-again
+    same-length
+    returns)

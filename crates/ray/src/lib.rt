@@ -1,0 +1,222 @@
+// Steps down a ray: where sweeps lower the same rows by the same amounts again and again, many of them are made at once.
+use numbers::less;
+use numbers::lesser;
+use slopes::Way;
+use slopes::cap_line;
+use slopes::steps_below;
+use slopes::sum_of_lines;
+ghost use mathlib.Core.Path.{_≡_};
+ghost use Prim.Native.Nat.{ℕ, _+_, _*_, _-_, _≤_, _<_};
+ghost use lib.ListN.{length, getD};
+ghost use Rattle.model.specs.Ray.{along};
+ghost use Rattle.rows.specs.Words.{rowCount, sheetOf};
+ghost use Rattle.model.proofs.Refine.{Held};
+ghost use Rattle.refinement.specs.Inner.{Ready};
+ghost use Rattle.refinement.specs.Refinement.{askOf};
+ghost use Rattle.refinement.specs.Ray.{OnWay, Reaches, Small, Roomy, Lowered, Descended};
+
+// For how many steps a row's turn allows the next one: its sum stays below what it has left.
+pub fn row_reach(
+    words: &[u32],
+    bounds: &[u32],
+    drops: &[u32],
+    row: u32,
+    count: u32,
+    processors: u32,
+    method: u32,
+    most: u32,
+) -> u32
+    requires { ⌜ OnWay (now words) (now bounds) (now drops) row most × (count ≡ rowCount (now words)) × (1 ≤ processors) × (processors ≤ 64) ⌝ }
+    ensures { λ r. ⌜ Reaches (sheetOf (now (words .entry))) (askOf (now (words .entry)) processors method) (now (bounds .entry)) (now (drops .entry)) row most r ⌝ }
+{
+    if most == 0 {
+        return 0;
+    }
+    let own = 3 * (row as usize);
+    let deadline = own + 1;
+    let fall = drops[row as usize];
+    let first = bounds[row as usize] - fall;
+    let way = Way {
+        row: row,
+        window: words[deadline],
+        first: first,
+        fall: fall,
+        most: most,
+        method: method,
+    };
+    let cap = cap_line(words, bounds, drops, way);
+    let line = sum_of_lines(words, bounds, drops, count, way, cap);
+    steps_below(
+        line,
+        processors * fall,
+        processors * (first - words[own] + 1),
+    )
+}
+
+// How many of its drops a row has above its cost.
+pub fn row_room(words: &[u32], bounds: &[u32], drops: &[u32], row: u32) -> u32
+    requires { ⌜ Ready (now words) (now bounds) × (length (now drops) ≡ rowCount (now words)) × (row < rowCount (now words)) ⌝ }
+    ensures { λ r. ⌜ r * getD (now (drops .entry)) row 0 + (sheetOf (now (words .entry))) .cost row ≤ getD (now (bounds .entry)) row 0 ⌝ }
+{
+    let at = 3 * (row as usize);
+    let drop = drops[row as usize];
+    if drop == 0 {
+        return 1_000_000;
+    }
+    (bounds[row as usize] - words[at]) / drop
+}
+
+// How many steps every row has room for.
+pub fn most_steps(words: &[u32], bounds: &[u32], drops: &[u32], count: u32) -> u32
+    requires { ⌜ Ready (now words) (now bounds) × (count ≡ rowCount (now words)) × (length (now drops) ≡ count) ⌝ }
+    ensures { λ r. ⌜ Roomy (now (words .entry)) (now (bounds .entry)) (now (drops .entry)) r ⌝ }
+{
+    let mut most = 1_000_000;
+    let mut row = 0;
+    while row < count {
+        most = lesser(most, row_room(words, bounds, drops, row));
+        row += 1;
+    }
+    most
+}
+
+// One step down the ray, row by row, as long as each row's turn allows it, and how many more may be made at once. A row that is not
+// allowed its drop loses it, and the ray ends there.
+pub fn ray_pass(
+    words: &[u32],
+    bounds: &mut [u32],
+    drops: &mut [u32],
+    processors: u32,
+    method: u32,
+    count: u32,
+    most: u32,
+) -> u32
+    requires { ⌜ Ready (now words) (now bounds) × (count ≡ rowCount (now words)) × (1 ≤ processors) × Held (sheetOf (now words)) (askOf (now words) processors method) (now bounds) × (processors ≤ 64) × Small (rowCount (now words)) (now drops) × Roomy (now words) (now bounds) (now drops) most ⌝ }
+    ensures { λ r. ⌜ Lowered (now (words .entry)) (askOf (now (words .entry)) processors method) (now (bounds .entry)) (now (bounds .exit)) (now (drops .exit)) r ⌝ }
+{
+    let mut steps = most;
+    let mut row = 0;
+    while row < count {
+        let drop = drops[row as usize];
+        if drop != 0 {
+            let reach = row_reach(words, bounds, drops, row, count, processors, method, steps);
+            if reach == 0 {
+                drops[row as usize] = 0;
+                return 0;
+            }
+            steps = reach;
+            bounds[row as usize] = bounds[row as usize] - drop;
+        }
+        row += 1;
+    }
+    less(steps, 1)
+}
+
+// So many steps down at once, for every row.
+pub fn step_down(bounds: &mut [u32], drops: &[u32], count: u32, steps: u32)
+    requires { ⌜ (length (now bounds) ≡ count) × (length (now drops) ≡ count) × ((i : ℕ) → i < count → (steps * getD (now drops) i 0 ≤ getD (now bounds) i 0) × (getD (now bounds) i 0 ≤ 1_000_000)) ⌝ }
+    ensures { λ r. ⌜ now (bounds .exit) ≡ along count (now (bounds .entry)) (now (drops .entry)) steps ⌝ }
+{
+    let mut row = 0;
+    while row < count {
+        bounds[row as usize] = bounds[row as usize] - steps * drops[row as usize];
+        row += 1;
+    }
+}
+
+// A guess at a row's next drop: by turns the least of its drops since the last ray and the last one; none where that would lead below its
+// cost.
+pub fn next_drop(seen: u32, before: u32, bound: u32, cost: u32, sweeps: u32) -> u32
+    ensures { λ r. ⌜ r ≤ bound ⌝ }
+{
+    let last = less(before, bound);
+    let kept = if sweeps < 4 { lesser(seen, last) } else { last };
+    let drop = if sweeps == 0 { last } else { kept };
+    if less(bound, cost) < drop { 0 } else { drop }
+}
+
+// Guesses every row's next drop after a sweep, from the bounds before it.
+pub fn note_drops(
+    words: &[u32],
+    bounds: &[u32],
+    before: &[u32],
+    drops: &mut [u32],
+    count: u32,
+    sweeps: u32,
+)
+    requires { ⌜ Ready (now words) (now bounds) × (count ≡ rowCount (now words)) × (length (now drops) ≡ count) × (length (now before) ≡ count) ⌝ }
+    ensures { λ r. ⌜ Small (rowCount (now (words .entry))) (now (drops .exit)) ⌝ }
+{
+    let mut row = 0;
+    while row < count {
+        let at = 3 * (row as usize);
+        let place = row as usize;
+        drops[place] = next_drop(
+            drops[place],
+            before[place],
+            bounds[place],
+            words[at],
+            sweeps,
+        );
+        row += 1;
+    }
+}
+
+// One ray: a pass, and the further steps that it found to be allowed, whose number is returned.
+pub fn ray_once(
+    words: &[u32],
+    bounds: &mut [u32],
+    drops: &mut [u32],
+    processors: u32,
+    method: u32,
+    count: u32,
+) -> u32
+    requires { ⌜ Ready (now words) (now bounds) × (count ≡ rowCount (now words)) × (1 ≤ processors) × Held (sheetOf (now words)) (askOf (now words) processors method) (now bounds) × (processors ≤ 64) × Small (rowCount (now words)) (now drops) ⌝ }
+    ensures { λ r. ⌜ Descended (now (words .entry)) (askOf (now (words .entry)) processors method) (now (bounds .entry)) (now (bounds .exit)) (now (drops .exit)) ⌝ }
+{
+    let most = most_steps(words, bounds, drops, count);
+    let further = ray_pass(words, bounds, drops, processors, method, count, most);
+    step_down(bounds, drops, count, further);
+    further
+}
+
+// Rays until one goes further than a step, or every row may have lost its drop.
+pub fn descend(
+    words: &[u32],
+    bounds: &mut [u32],
+    drops: &mut [u32],
+    processors: u32,
+    method: u32,
+    count: u32,
+)
+    requires { ⌜ Ready (now words) (now bounds) × (count ≡ rowCount (now words)) × (1 ≤ processors) × Held (sheetOf (now words)) (askOf (now words) processors method) (now bounds) × (processors ≤ 64) × Small (rowCount (now words)) (now drops) ⌝ }
+    ensures { λ r. ⌜ Descended (now (words .entry)) (askOf (now (words .entry)) processors method) (now (bounds .entry)) (now (bounds .exit)) (now (drops .exit)) ⌝ }
+{
+    let mut tries = count;
+    while 0 < tries {
+        let further = ray_once(words, bounds, drops, processors, method, count);
+        if 0 < further {
+            return;
+        }
+        tries -= 1;
+    }
+}
+
+// After every fourth sweep the drops noted are followed down; else nothing is done.
+pub fn hasten(
+    words: &[u32],
+    bounds: &mut [u32],
+    drops: &mut [u32],
+    processors: u32,
+    method: u32,
+    count: u32,
+    sweeps: u32,
+)
+    requires { ⌜ Ready (now words) (now bounds) × (count ≡ rowCount (now words)) × (1 ≤ processors) × Held (sheetOf (now words)) (askOf (now words) processors method) (now bounds) × (processors ≤ 64) × Small (rowCount (now words)) (now drops) ⌝ }
+    ensures { λ r. ⌜ Descended (now (words .entry)) (askOf (now (words .entry)) processors method) (now (bounds .entry)) (now (bounds .exit)) (now (drops .exit)) ⌝ }
+{
+    if sweeps % 4 != 0 {
+        return;
+    }
+    descend(words, bounds, drops, processors, method, count);
+}

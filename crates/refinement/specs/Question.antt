@@ -1,0 +1,61 @@
+-- The one-row question on words: its checks, its answer, and what that means.
+use mathlib.Core.Path.{_≡_}
+use mathlib.Core.Bool.{Bool, _&&_}
+use mathlib.Core.List.{List}
+use mathlib.Core.Option.{Option, none, some}
+use Prim.Native.Nat.{ℕ}
+use lib.Dec.{leb, ltb, eqb}
+use lib.ListN.{length, getD}
+use Rattle.laws.specs.Choice.{pick, unlessRefused}
+use Rattle.laws.specs.Bits.{every}
+use Rattle.model.specs.Sheet.{Sheet}
+use Rattle.model.specs.Answer.{methodOf, answer, Answers}
+use Rattle.rows.specs.declared.Found.{Found}
+use Rattle.rows.specs.declared.Found.the-variants.{At, Nowhere}
+use Rattle.rows.specs.declared.Refusal.{Refusal}
+use Rattle.rows.specs.Words.{sheetOf, foundOf}
+use Rattle.rows.specs.Checks.{refused, notRefused, processorsRefusal, methodRefusal, firstOf, wordsRefusal}
+use Rattle.refinement.specs.declared.OneRow.{OneRow}
+
+-- A bound lies from its row's cost to its deadline.
+unfoldable pub boundAllowed : Sheet → List ℕ → ℕ → Bool
+boundAllowed s R i = leb (s .cost i) (getD R i 0) && leb (getD R i 0) (s .deadline i)
+
+-- The row number is below the row count, the lent bounds are one word per row, and each lies from its row's C to its D.
+unfoldable pub questionAllowed : Sheet → List ℕ → ℕ → Bool
+questionAllowed s R row = ltb row (s .rows) && (eqb (length R) (s .rows) && every (boundAllowed s R) (s .rows))
+
+-- 9: one-row question: not so.
+unfoldable pub questionRefusal : Sheet → List ℕ → ℕ → Refusal
+questionRefusal s R row = pick (questionAllowed s R row) notRefused (refused 9 0)
+
+-- The checks of the one-row question: 2, 3, 4, 5, 8, 9.
+unfoldable pub oneRowRefusal : List ℕ → ℕ → ℕ → List ℕ → ℕ → Refusal
+oneRowRefusal words processors method bounds row =
+    let first = wordsRefusal words (firstOf (processorsRefusal processors) (methodRefusal method)) in
+    unlessRefused (first .number) first (questionRefusal (sheetOf words) bounds row)
+
+-- What the entry answers: the refusal, or the one-row answer. Refused, it finds nothing.
+unfoldable pub oneRow : List ℕ → ℕ → ℕ → List ℕ → ℕ → OneRow
+oneRow words processors method bounds row =
+    let refusal = oneRowRefusal words processors method bounds row in
+    unlessRefused (refusal .number) (record { refusal = refusal .number; place = refusal .place; answer = Nowhere })
+    (record { refusal = 0; place = 0; answer = foundOf (answer (methodOf method) (sheetOf words) processors row bounds) })
+
+-- An answer as a number: a bound is itself, and none is 0, which no bound is.
+unfoldable pub boundNumber : Found → ℕ
+boundNumber (At bound) = bound
+boundNumber Nowhere = 0
+
+-- An answer as document 01 says it: a bound, or none.
+unfoldable pub answerOf : Found → Option ℕ
+answerOf (At bound) = some bound
+answerOf Nowhere = none
+
+-- What an answer to the question promises: the table's refusal exactly; where nothing is refused the least response time (or the formula's
+-- value) or that there is none; refused, every other number is 0.
+pub record OneRowPromise (words : List ℕ) (processors method : ℕ) (bounds : List ℕ) (row : ℕ) (r : OneRow) : Type 0 where
+  pub number : r .refusal ≡ (oneRowRefusal words processors method bounds row) .number
+  pub place : r .place ≡ (oneRowRefusal words processors method bounds row) .place
+  pub answered : r .refusal ≡ 0 → Answers (methodOf method) (sheetOf words) processors row bounds (answerOf (r .answer))
+  pub nothing : (r .refusal ≡ 0 → ⊥) → r .answer ≡ Nowhere

@@ -1,0 +1,131 @@
+-- The whole answer: a refused sheet gets its line, and a sheet that was read is refused later only for want of room.
+use mathlib.Core.Path.{_≡_, refl, sym, _∙_, ap, ap₂}
+use mathlib.Core.List.{List, _++_}
+use Prim.Native.Nat.{ℕ, _*_, _≤_}
+use native.Mathlib.Decide.{ℕ-discrete}
+use native.Mathlib.Omega.{arith}
+use lib.ListN.{length, take, drop}
+use lib.Seq.{take-at}
+use Rattle.laws.proofs.Choice.{not-refused, is-refused, one-answer}
+use Rattle.laws.specs.Fill.{atFront}
+use Rattle.laws.proofs.Fill.{front-put}
+use Rattle.rows.specs.declared.Refusal.{Refusal}
+use Rattle.rows.specs.Words.{rowCount}
+use Rattle.rows.specs.Checks.{refused, methodRefusal, roomRefusal}
+use Rattle.rows.proofs.Checks.{allowed-processors, enough-room}
+use Rattle.grammar.specs.declared.Read.{Read}
+use Rattle.grammar.specs.declared.Written.{Written}
+use Rattle.grammar.specs.Grammar.{processorsWritten, rowsWritten}
+use Rattle.grammar.specs.Lines.{wordsWritten}
+use Rattle.grammar.specs.Sheets.{readRefusal, readSheet, wordsAfter, writeAnswer}
+use Rattle.grammar.proofs.Refusals.{read-refused, words-length, write-accepted}
+use Rattle.grammar.proofs.Entries.{Readable, read-number, read-found, read-answers, read-leaves}
+use Rattle.report.specs.Lines.{head, line, resultLength, refusalLine}
+use Rattle.report.specs.Result.{resultOf, writeResult, resultAfter, mostWords, answerText, answerRefusal, answerSheet, answerAfter}
+use Rattle.report.proofs.Text.{refusal-length}
+use Rattle.report.proofs.Entries.{room-decides, result-of-length}
+
+-- Method 1 is not refused.
+method-one : methodRefusal 1 ≡ 0
+unfolding methodRefusal
+method-one = refl
+
+-- What is answered and left by a text of so many bytes, where that text is the answer.
+fitted : (bytes text out : List ℕ) (size : ℕ) → answerText bytes ≡ text → length text ≡ size
+    → (writeAnswer (refused (roomRefusal (length out) size) 0) size ≡ answerSheet bytes (length out))
+    × (atFront (roomRefusal (length out) size) text out ≡ answerAfter bytes out)
+unfolding answerSheet answerAfter answerRefusal
+fitted bytes text out size is-text is-size =
+    let whole : size ≡ length (answerText bytes) = sym (ap length is-text ∙ is-size) in (
+      ap (λ (n : ℕ). writeAnswer (refused (roomRefusal (length out) n) 0) n) whole,
+      ap₂ (λ (n : ℕ) (l : List ℕ). atFront (roomRefusal (length out) n) l out) whole (sym is-text),
+    )
+
+-- A refused sheet: its number and place go into its line.
+pub refused-answer : (bytes out : List ℕ) (read : Read) → read ≡ readSheet bytes 192 → (read .refusal ≡ 0 → ⊥)
+    → (writeAnswer (refused (roomRefusal (length out) 9) 0) 9 ≡ answerSheet bytes (length out))
+    × (atFront (roomRefusal (length out) 9) (refusalLine (read .refusal) (read .place)) out ≡ answerAfter bytes out)
+unfolding answerText mostWords readSheet
+refused-answer bytes out read is-read one-holds =
+    let refusal = readRefusal bytes 192 in
+    let number : read .refusal ≡ refusal .number = ap (λ (r : Read). r .refusal) is-read ∙ read-number bytes 192 in
+    let holds : refusal .number ≡ 0 → ⊥ = λ zero. one-holds (number ∙ zero) in
+    let place : read .place ≡ refusal .place = ap (λ (r : Read). r .place) (is-read ∙ sym (read-refused refusal bytes holds)) in
+    fitted bytes (refusalLine (read .refusal) (read .place)) out 9
+    (is-refused _ _ _ holds ∙ ap₂ refusalLine (sym number) (sym place)) (refusal-length (read .refusal) (read .place))
+
+module _ (bytes zeros : List ℕ) (whole : length zeros ≡ 192) (read : Read) (is-read : read ≡ readSheet bytes 192) (accepted : read .refusal ≡ 0) where
+  -- The sheet has all that is asked of it.
+  facts : Readable bytes 192
+  facts = read-found bytes 192 (sym (ap (λ (r : Read). r .refusal) is-read) ∙ accepted)
+
+  rows-are : read .rows ≡ rowsWritten bytes
+  rows-are = ap (λ (r : Read). r .rows) (is-read ∙ read-answers bytes 192 facts)
+
+  processors-are : read .processors ≡ processorsWritten bytes
+  processors-are = ap (λ (r : Read). r .processors) (is-read ∙ read-answers bytes 192 facts)
+
+  -- The words at the front are the sheet's.
+  pub words-are : take (3 * read .rows) (wordsAfter bytes zeros) ≡ wordsWritten bytes
+  words-are =
+      ap₂ take (ap (λ (n : ℕ). 3 * n) rows-are) (read-leaves bytes zeros (rw whole facts))
+      ∙ take-at (wordsWritten bytes) (drop (length (wordsWritten bytes)) zeros) (3 * rowsWritten bytes) (words-length bytes)
+
+  pub words-room : 3 * read .rows ≤ 192
+  words-room = rw rows-are (facts .passed .enough)
+
+  -- What writing their result answers and leaves is the answer.
+  pub accepted-answer : (out : List ℕ)
+      → (writeResult (take (3 * read .rows) (wordsAfter bytes zeros)) (read .processors) 1 (length out) ≡ answerSheet bytes (length out))
+      × (resultAfter (take (3 * read .rows) (wordsAfter bytes zeros)) (read .processors) 1 out ≡ answerAfter bytes out)
+  unfolding answerText mostWords writeResult resultAfter
+  accepted-answer out =
+      let words = wordsWritten bytes in
+      let m = processorsWritten bytes in
+      let only = room-decides words m 1 (length out) (facts .passed .sound) (allowed-processors m (facts .passed .allowed)) method-one in
+      let fits = fitted bytes (resultOf words m 1) out (resultLength (rowCount words))
+      (not-refused _ _ _ (sym (read-number bytes 192) ∙ sym (ap (λ (r : Read). r .refusal) is-read) ∙ accepted)) (result-of-length words m 1) in
+      rw (words-are, processors-are) (
+        ap (λ (r : Refusal). writeAnswer r (resultLength (rowCount words))) only ∙ fits .0,
+        ap (λ (r : Refusal). atFront (r .number) (resultOf words m 1) out) only ∙ fits .1,
+      )
+
+-- No answer is longer than the result sheet of 64 rows: a refused sheet's line is shorter, and a sheet that was read has no more rows.
+pub longest-answer : (bytes : List ℕ) → length (answerText bytes) ≤ resultLength 64
+unfolding answerText mostWords resultLength head line
+longest-answer bytes = decided (ℕ-discrete ((readRefusal bytes 192) .number) 0)
+  where
+    decided : Dec ((readRefusal bytes 192) .number ≡ 0) → length (answerText bytes) ≤ resultLength 64
+    decided (yes zero) =
+        let words = wordsWritten bytes in
+        let facts = read-found bytes 192 (read-number bytes 192 ∙ zero) in
+        let few : rowCount words ≤ 64 = facts .passed .sound .at-most in
+        rw (not-refused _ _ _ zero, result-of-length words (processorsWritten bytes) 1) (omega arith)
+    decided (no one-holds) = rw (is-refused _ _ _ one-holds, refusal-length) (omega arith)
+
+-- An answer that fits is given: its whole text stands at the front of the output, and its length is returned.
+pub whole-answer : (bytes out : List ℕ) → length (answerText bytes) ≤ length out
+    → (answerSheet bytes (length out) ≡ record { refusal = 0; place = 0; length = length (answerText bytes) })
+    × (answerAfter bytes out ≡ answerText bytes ++ drop (length (answerText bytes)) out)
+unfolding answerSheet answerAfter answerRefusal
+whole-answer bytes out enough =
+    let room = enough-room (length out) (length (answerText bytes)) enough in (
+      sym (write-accepted (answerRefusal bytes (length out)) (length (answerText bytes)) room),
+      sym (front-put ((answerRefusal bytes (length out)) .number) (answerText bytes) out room),
+    )
+
+-- Two results that the contracts allow are equal, and so are two written texts.
+pub write-result-unique : (words : List ℕ) (m method room : ℕ) (first second : Written) → first ≡ writeResult words m method room
+    → second ≡ writeResult words m method room → first ≡ second
+write-result-unique words m method room first second = one-answer
+
+pub result-after-unique : (words : List ℕ) (m method : ℕ) (out first second : List ℕ) → first ≡ resultAfter words m method out
+    → second ≡ resultAfter words m method out → first ≡ second
+result-after-unique words m method out first second = one-answer
+
+pub answer-unique : (bytes : List ℕ) (room : ℕ) (first second : Written) → first ≡ answerSheet bytes room → second ≡ answerSheet bytes room
+    → first ≡ second
+answer-unique bytes room first second = one-answer
+
+pub answer-after-unique : (bytes out first second : List ℕ) → first ≡ answerAfter bytes out → second ≡ answerAfter bytes out → first ≡ second
+answer-after-unique bytes out first second = one-answer

@@ -1,0 +1,102 @@
+-- The entries' checks and answers: what number 0 says, and that a sheet read without refusal is refused later only for want of room.
+use mathlib.Core.Path.{_≡_, refl, sym, _∙_, ap, ap₂}
+use mathlib.Core.List.{List, _++_}
+use Prim.Native.Nat.{ℕ, _≤_}
+use native.Mathlib.Omega.{arith}
+use lib.ListN.{length, drop, length-append}
+use Rattle.model.specs.Refine.{atOnce, marks}
+use Rattle.rows.specs.declared.Refusal.{Refusal}
+use Rattle.rows.specs.Words.{rowCount, sheetOf}
+use Rattle.rows.specs.Checks.{refused, processorsRefusal, methodRefusal, roomRefusal, firstOf, wordsRefusal}
+use Rattle.rows.specs.Inner.{SoundRows}
+use Rattle.rows.proofs.Words.{sheet-rows}
+use Rattle.rows.proofs.Checks as checks
+use Rattle.refinement.specs.declared.Refined.{Refined}
+use Rattle.refinement.specs.Refinement.{askOf, refineRefusal, finalBounds, refined, refinedWords}
+use Rattle.refinement.proofs.Refinement.{at-once-length, refine-answered}
+use Rattle.report.specs.Lines.{resultLength}
+use Rattle.report.specs.Result.{resultOf, resultRefusal}
+use Rattle.report.specs.Inner.{linesFrom}
+use Rattle.report.proofs.Text.{text-is, result-length}
+
+-- The refusal, from what each call gave.
+pub chain : (words : List ℕ) (m method room : ℕ) {five need seven rest four whole : ℕ} {r : Refusal} → five ≡ methodRefusal method
+    → need ≡ resultLength (rowCount words) → seven ≡ roomRefusal room need → rest ≡ firstOf five seven → four ≡ processorsRefusal m
+    → whole ≡ firstOf four rest → r ≡ wordsRefusal words whole → r ≡ resultRefusal words m method room
+unfolding resultRefusal
+chain words m method room is-five is-need is-seven is-rest is-four is-whole is-refusal = cc
+
+-- What number 0 says.
+pub record Writable (words : List ℕ) (m method room : ℕ) : Type 0 where
+  pub rows : SoundRows words
+  pub processors : processorsRefusal m ≡ 0
+  pub methods : methodRefusal method ≡ 0
+  pub enough : resultLength (rowCount words) ≤ room
+
+pub writable : (words : List ℕ) (m method room : ℕ) → (resultRefusal words m method room) .number ≡ 0 → Writable words m method room
+unfolding resultRefusal
+writable words m method room zero =
+    let seven = roomRefusal room (resultLength (rowCount words)) in
+    let facts = checks.accepted words (firstOf (processorsRefusal m) (firstOf (methodRefusal method) seven)) zero in
+    let four = checks.first-of-zero (processorsRefusal m) (firstOf (methodRefusal method) seven) (facts .nothing-between) in
+    let five = checks.first-of-zero (methodRefusal method) seven (four .1) in
+    record {
+      rows = facts .rows;
+      processors = four .0;
+      methods = five .0;
+      enough = checks.room-enough room (resultLength (rowCount words)) (five .1);
+    }
+
+-- Then refining into 64 words is not refused.
+pub refines : (words : List ℕ) (m method room : ℕ) → Writable words m method room → (refineRefusal words m method 64) .number ≡ 0
+unfolding refineRefusal
+refines words m method room facts =
+    ap (λ (r : Refusal). r .number)
+    (checks.sound-passes words _
+    (record {
+      rows = facts .rows;
+      nothing-between = checks.first-of-none _ _ (facts .processors)
+          (checks.first-of-none _ _ (facts .methods) (checks.enough-room 64 (rowCount words) (facts .rows .at-most)));
+    }))
+
+-- Sound rows with processors and method allowed are refused only for want of room.
+pub room-decides : (words : List ℕ) (m method room : ℕ) → SoundRows words → processorsRefusal m ≡ 0 → methodRefusal method ≡ 0
+    → resultRefusal words m method room ≡ refused (roomRefusal room (resultLength (rowCount words))) 0
+unfolding resultRefusal
+room-decides words m method room sound four five =
+    ap (wordsRefusal words) (checks.next-decides _ _ four ∙ checks.next-decides _ _ five) ∙ checks.sound-between words _ sound
+
+-- A result sheet has the length that its rows say.
+pub result-of-length : (words : List ℕ) (m method : ℕ) → length (resultOf words m method) ≡ resultLength (rowCount words)
+unfolding resultOf
+result-of-length words m method =
+    result-length (sheetOf words) (askOf words m method) (finalBounds atOnce words m method) ∙ ap resultLength (sheet-rows words)
+
+module _ (words : List ℕ) (m method : ℕ) (out : List ℕ) (passed : (refineRefusal words m method (length out)) .number ≡ 0) (r : Refined)
+    (after : List ℕ) (answered : r ≡ refined atOnce words m method (length out)) (written : after ≡ refinedWords atOnce words m method out) where
+  -- What refining answered and wrote, where it was not refused.
+  marks-are : r .marks ≡ marks (sheetOf words) (askOf words m method) (atOnce (sheetOf words) (askOf words m method))
+  marks-are = ap (λ (x : Refined). x .marks) (answered ∙ sym (refine-answered atOnce words m method out passed _ (rowCount words) _ refl refl (at-once-length words m method) .0))
+
+  bounds-are : after ≡ atOnce (sheetOf words) (askOf words m method) ++ drop (rowCount words) out
+  bounds-are = written ∙ sym (refine-answered atOnce words m method out passed _ (rowCount words) _ refl refl (at-once-length words m method) .1)
+
+  -- There is a bound for each row.
+  pub bound-each : rowCount words ≤ length after
+  bound-each =
+      omega (
+        arith,
+        ap length bounds-are,
+        length-append (atOnce (sheetOf words) (askOf words m method)) (drop (rowCount words) out),
+        at-once-length words m method,
+      )
+
+  -- The lines from them are the result sheet.
+  pub refined-text : (rows : ℕ) → rows ≡ rowCount words → linesFrom (r .marks) after rows ≡ resultOf words m method
+  unfolding resultOf finalBounds
+  refined-text rows is-rows =
+      let s = sheetOf words in
+      let ask = askOf words m method in
+      ap (linesFrom (r .marks) after) (is-rows ∙ sym (sheet-rows words))
+      ∙ ap₂ (λ (n : ℕ) (l : List ℕ). linesFrom n l (s .rows)) marks-are bounds-are
+      ∙ text-is s ask (atOnce s ask) (drop (rowCount words) out) (at-once-length words m method ∙ sym (sheet-rows words))

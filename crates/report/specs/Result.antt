@@ -1,0 +1,56 @@
+-- The result sheet of rows, and the whole answer to a sheet's bytes: what is returned and what is left in lent space, refused or not.
+use mathlib.Core.List.{List}
+use Prim.Native.Nat.{ℕ}
+use lib.ListN.{length}
+use Rattle.laws.specs.Choice.{unlessRefused}
+use Rattle.laws.specs.Fill.{atFront}
+use Rattle.model.specs.Refine.{atOnce}
+use Rattle.rows.specs.declared.Refusal.{Refusal}
+use Rattle.rows.specs.Words.{rowCount, sheetOf}
+use Rattle.rows.specs.Checks.{refused, processorsRefusal, methodRefusal, roomRefusal, firstOf, wordsRefusal}
+use Rattle.refinement.specs.Refinement.{askOf, finalBounds}
+use Rattle.grammar.specs.declared.Written.{Written}
+use Rattle.grammar.specs.Grammar.{processorsWritten}
+use Rattle.grammar.specs.Lines.{wordsWritten}
+use Rattle.grammar.specs.Sheets.{readRefusal, writeAnswer}
+use Rattle.report.specs.Lines.{resultLength, resultBytes, refusalLine}
+
+-- The result sheet of rows: marks and bounds are worked out by the refinement, at once.
+unfoldable pub resultOf : List ℕ → ℕ → ℕ → List ℕ
+resultOf words processors method =
+    resultBytes (sheetOf words) (askOf words processors method) (finalBounds atOnce words processors method)
+
+-- The checks of writing it: 2, 3, 4, 5, 7 (7 + 11n bytes), 8.
+unfoldable pub resultRefusal : List ℕ → ℕ → ℕ → ℕ → Refusal
+resultRefusal words processors method room =
+    wordsRefusal words
+    (firstOf (processorsRefusal processors) (firstOf (methodRefusal method) (roomRefusal room (resultLength (rowCount words)))))
+
+-- Writing it: what is returned, and what is left in the lent bytes.
+unfoldable pub writeResult : List ℕ → ℕ → ℕ → ℕ → Written
+writeResult words processors method room = writeAnswer (resultRefusal words processors method room) (resultLength (rowCount words))
+
+unfoldable pub resultAfter : List ℕ → ℕ → ℕ → List ℕ → List ℕ
+resultAfter words processors method out =
+    atFront ((resultRefusal words processors method (length out)) .number) (resultOf words processors method) out
+
+-- The words that the largest allowed sheet has: 64 rows of three.
+unfoldable pub mostWords : ℕ
+mostWords = 192
+
+-- The answer to a sheet's bytes: where the sheet is refused the one line that says so, else the RTA result sheet of the at-once engine.
+unfoldable pub answerText : List ℕ → List ℕ
+answerText bytes =
+    let refusal = readRefusal bytes mostWords in
+    unlessRefused (refusal .number) (refusalLine (refusal .number) (refusal .place))
+    (resultOf (wordsWritten bytes) (processorsWritten bytes) 1)
+
+-- Writing an answer refuses in one case only, 7: the output space is shorter than the answer.
+unfoldable pub answerRefusal : List ℕ → ℕ → Refusal
+answerRefusal bytes room = refused (roomRefusal room (length (answerText bytes))) 0
+
+unfoldable pub answerSheet : List ℕ → ℕ → Written
+answerSheet bytes room = writeAnswer (answerRefusal bytes room) (length (answerText bytes))
+
+unfoldable pub answerAfter : List ℕ → List ℕ → List ℕ
+answerAfter bytes out = atFront ((answerRefusal bytes (length out)) .number) (answerText bytes) out

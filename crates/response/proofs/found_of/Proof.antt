@@ -1,0 +1,19 @@
+-- `found_of` goes by the cases of the number.
+use Rattle.refinement.specs.Inner.{foundFrom}
+use Rattle.refinement.proofs.ByMethod.{found-positive}
+use Rattle.response.proofs.found_of.Statement.{statement}
+use Rattle.response.proofs.found_of.Tie as tie
+
+returns : tie.Need-returns
+unfolding foundFrom
+returns c = rw (c .if1 .taken)
+
+returns-2 : tie.Need-returns-2
+returns-2 c = found-positive _ (c .if1 .left)
+
+pub found-of-spec : {M : Type 1} → statement M
+found-of-spec =
+    tie.close
+    (tie.spec
+    returns
+    returns-2)

@@ -1,0 +1,111 @@
+-- `term` is the least of work, share and cap: a row that is ready has work of at least 1, so a least of 0 or 1 needs no more looking.
+use borrow.Author.Needs.{needs}
+use mathlib.Core.Path.{_∙_, ap₂}
+use Prim.Native.Nat.{min}
+use lib.ListN.{getD}
+use denote.Ref.{now}
+use Rattle.model.specs.Sheet.{triples}
+use Rattle.model.specs.Interference.{work, workOf}
+use Rattle.rows.specs.Words.{sheetOf}
+use Rattle.rows.proofs.Checks.{sound-row}
+use Rattle.refinement.specs.Inner.{termOf}
+use Rattle.refinement.proofs.Limits.{bound-in-range, work-positive}
+use Rattle.refinement.proofs.Sizes.{sizes}
+use native.Mathlib.Omega.{arith}
+use Rattle.response.proofs.term.Statement.{statement}
+use Rattle.response.proofs.term.Tie as tie
+
+mul-lesser : tie.Need-mul-lesser
+mul-lesser c = search needs
+
+shared-slice-read-lesser : tie.Need-shared-slice-read-lesser
+shared-slice-read-lesser c = search needs
+
+lesser-requires : tie.Need-lesser-requires
+lesser-requires c κs = search needs
+
+returns : tie.Need-returns
+unfolding termOf workOf
+returns c =
+    let p = c .before .before .before .before .before .before in
+    let words = now (p .args .words) in
+    let other = p .args .other in
+    let bounds = now (p .args .bounds) in
+    let some-work = work-positive ((sheetOf words) .cost other) ((sheetOf words) .period other) (getD bounds other 0) (p .args .x)
+    (sound-row words (p .pre .0 .rows) other (p .pre .1) .positive) (bound-in-range words bounds (p .pre .0) other (p .pre .1) .0) (p .pre .3) in
+    omega arith
+
+mul-at : tie.Need-mul-at
+mul-at c = search needs
+
+add-period : tie.Need-add-period
+add-period c = search needs
+
+mul-time : tie.Need-mul-time
+mul-time c = search needs
+
+shared-slice-read-time : tie.Need-shared-slice-read-time
+shared-slice-read-time c = search needs
+
+add-time : tie.Need-add-time
+add-time c = let p = c .before .before .before .before .before .before .before in let known = sizes _ _ (p .pre .0) (p .args .other) (p .pre .1) in omega (arith, c .before .before .before .before .before .before .before .pre .4)
+
+mul-time-2 : tie.Need-mul-time-2
+mul-time-2 c = search needs
+
+shared-slice-read-time-2 : tie.Need-shared-slice-read-time-2
+shared-slice-read-time-2 c = search needs
+
+sub-time : tie.Need-sub-time
+sub-time c = let p = c .before .before .before .before .before .before .before .before in let known = sizes _ _ (p .pre .0) (p .args .other) (p .pre .1) in omega arith
+
+mul-work-in-time : tie.Need-mul-work-in-time
+mul-work-in-time c = search needs
+
+shared-slice-read-work-in-time : tie.Need-shared-slice-read-work-in-time
+shared-slice-read-work-in-time c = search needs
+
+mul-work-in-time-2 : tie.Need-mul-work-in-time-2
+mul-work-in-time-2 c = search needs
+
+shared-slice-read-work-in-time-2 : tie.Need-shared-slice-read-work-in-time-2
+shared-slice-read-work-in-time-2 c = search needs
+
+work-in-time-requires : tie.Need-work-in-time-requires
+work-in-time-requires c κs =
+    let p = c .before .before .before .before .before .before .before .before .before .before in
+    let known = sizes _ _ (p .pre .0) (p .args .other) (p .pre .1) in
+    omega (arith, p .pre .4)
+
+lesser-requires-2 : tie.Need-lesser-requires-2
+lesser-requires-2 c κs = search needs
+
+returns-2 : tie.Need-returns-2
+unfolding termOf workOf work sheetOf triples
+returns-2 c =
+    c .lesser2 .ensures
+    ∙ ap₂ min (c .before .work-in-time .ensures) (c .before .before .before .before .before .before .before .lesser .ensures)
+
+pub term-spec : {M : Type 1} → statement M
+term-spec =
+    tie.close
+    (tie.spec
+    mul-lesser
+    shared-slice-read-lesser
+    lesser-requires
+    returns
+    mul-at
+    add-period
+    mul-time
+    shared-slice-read-time
+    add-time
+    mul-time-2
+    shared-slice-read-time-2
+    sub-time
+    mul-work-in-time
+    shared-slice-read-work-in-time
+    mul-work-in-time-2
+    shared-slice-read-work-in-time-2
+    work-in-time-requires
+    lesser-requires-2
+    returns-2)

@@ -1,5 +1,0 @@
-pub mod Grammar
-pub mod Lines
-pub mod Sheets
-pub mod Inner
-pub mod Meaning
