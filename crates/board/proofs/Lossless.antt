@@ -8,11 +8,11 @@ use Rattle.model.specs.Answer.{methodOf}
 use Rattle.model.proofs.Methods.{answer-regular}
 use Rattle.rows.specs.declared.Found.{Found}
 use Rattle.rows.specs.declared.Found.the-variants.{At, Nowhere}
-use Rattle.rows.specs.Words.{sheetOf}
+use Rattle.rows.specs.Words.{sheetOf, boundOr, boundNumber}
 use Rattle.rows.proofs.Words.{found-some}
 use Rattle.rows.proofs.Checks.{sound-row}
 use Rattle.refinement.specs.declared.OneRow.{OneRow}
-use Rattle.refinement.specs.Question.{oneRowRefusal, oneRow, boundNumber}
+use Rattle.refinement.specs.Question.{oneRowRefusal, oneRow}
 use Rattle.refinement.proofs.Question.{asked, one-row-answered, one-row-refused}
 use Rattle.verdict.specs.declared.Answer.{Answer}
 use Rattle.verdict.proofs.Promised.{numbers-fix}
@@ -41,7 +41,7 @@ bound-positive words m method R row = decided (ℕ-discrete ((oneRowRefusal word
 
 -- So the number of an answer fixes it.
 bound-fixed : (f g : Found) → Positive f → Positive g → boundNumber f ≡ boundNumber g → f ≡ g
-unfolding boundNumber
+unfolding boundOr
 bound-fixed (At b) (At c) some-bound other-bound same = ap At same
 bound-fixed (At b) Nowhere some-bound other-bound same = absurd (omega (arith, some-bound b refl))
 bound-fixed Nowhere (At c) some-bound other-bound same = absurd (omega (arith, other-bound c refl))

@@ -1,6 +1,6 @@
 -- The C face: an answer that holds an enum is told in numbers alone. Refusal and place stay what they are.
 use Rattle.refinement.specs.declared.OneRow.{OneRow}
-use Rattle.refinement.specs.Question.{boundNumber}
+use Rattle.rows.specs.Words.{boundNumber}
 use Rattle.verdict.specs.declared.Answer.{Answer}
 use Rattle.verdict.specs.OneProcessor.{outcomeNumber, outcomeValue}
 use Rattle.board.specs.declared.RowNumbers.{RowNumbers}

@@ -1,19 +1,7 @@
 // Each case of an enum as numbers.
-use rows::Found;
 use verdict::Outcome;
 ghost use mathlib.Core.Path.{_≡_};
-ghost use Rattle.refinement.specs.Question.{boundNumber};
 ghost use Rattle.verdict.specs.OneProcessor.{outcomeNumber, outcomeValue};
-
-// A bound is itself, none is 0.
-pub(crate) fn bound_number(found: Found) -> u32
-    ensures { λ r. ⌜ r ≡ boundNumber found ⌝ }
-{
-    match found {
-        Found::At(bound) => bound,
-        Found::Nowhere => 0,
-    }
-}
 
 // Undecided is 0, a miss 1, fits 2.
 pub(crate) fn outcome_number(outcome: Outcome) -> u32

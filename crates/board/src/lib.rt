@@ -4,7 +4,6 @@ mod cases;
 use analysis::one_row;
 use analysis::refine_at_once;
 use analysis::refine_rounds;
-use cases::bound_number;
 use cases::outcome_number;
 use cases::outcome_value;
 use demand::one_processor;
@@ -13,6 +12,7 @@ use grammar::Written;
 use refinement::Refined;
 use result::answer_sheet;
 use result::write_result;
+use rows::bound_or;
 use sheet::read_sheet;
 use sheet::write_sheet;
 ghost use mathlib.Core.Path.{_≡_};
@@ -58,7 +58,7 @@ pub extern "C" fn circuitrail_one_row(
     RowNumbers {
         refusal: answered.refusal,
         place: answered.place,
-        bound: bound_number(answer),
+        bound: bound_or(answer, 0),
     }
 }
 

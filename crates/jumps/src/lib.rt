@@ -12,8 +12,8 @@ ghost use lib.Dec.{leb};
 ghost use lib.ListN.{length, getD};
 ghost use Rattle.laws.specs.Sum.{total};
 ghost use Rattle.model.specs.Answer.{rtaAnswer};
-ghost use Rattle.rows.specs.Words.{rowCount, sheetOf, foundOf};
-ghost use Rattle.refinement.specs.Inner.{Ready, boundOr, Rooms, Jumped};
+ghost use Rattle.rows.specs.Words.{rowCount, sheetOf, foundOf, boundOr};
+ghost use Rattle.refinement.specs.Inner.{Ready, Rooms, Jumped};
 ghost use Rattle.refinement.specs.Kept.{KeptRow, KeptRows, Kept, Tried, lineAt, keptSum, Passed};
 
 // The rows kept and what is settled, with the X to go on from.
@@ -110,8 +110,8 @@ pub fn line_excludes(others: &[u32], rows: Pending, processors: u32, x: u32, cap
     4_294_967_296 * ((processors * cap) as u64) <= 4_294_967_296 * (rows.settled as u64) + sum
 }
 
-// The farthest X, halving the way to the deadline down to 64, with which and with the present one the lines exclude all between; else the
-// present one.
+// Some X from the present one to the deadline with which and with the present one the lines exclude all between: looked for by halving the
+// way down to 64, and the present one where none is found. That no farther one would do is not claimed.
 pub fn far_from(others: &[u32], rows: Pending, own: u32, top: u32, processors: u32, x: u32) -> u32
     requires { ⌜ Kept (now others) (rows .left) (rows .settled) × Tried own top x × (processors ≤ 64) ⌝ }
     ensures { λ r. ⌜ (x ≤ r) × (r ≤ top) × Passed (now (others .entry)) (rows .left) (rows .settled) processors own x r ⌝ }
@@ -162,7 +162,8 @@ pub fn leap_far(
     }
 }
 
-// The next X worth looking at: X itself if it solves the equation, else the first that is not excluded.
+// The next X to look at: X itself only where its right side does not pass it, else a later one, and all that is passed is excluded. That it
+// is the first that is not excluded is not claimed.
 pub fn onward(
     others: &[u32],
     rows: Pending,

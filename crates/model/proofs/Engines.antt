@@ -15,7 +15,8 @@ use Rattle.laws.proofs.Fill.{below-antisymm}
 use Rattle.laws.proofs.Bits.{bits-below, bits-at, bits-past, every-each, each-every, every-full, full-every}
 use Rattle.model.specs.Sheet.{Sheet}
 use Rattle.model.specs.Refine.{Ask, deadlines, turn, round, sweep, until, passes, rounds, atOnce, marked, marks, accepted, Consistent, Supported, Largest, SameEnd, MarksSay, Dominates}
-use Rattle.model.proofs.Refine.{Regular, Held, Pass, Ended, deadlines-held, deadlines-sum, until-ends, round-pass, sweep-pass}
+use Rattle.model.specs.Inner.{Held}
+use Rattle.model.proofs.Refine.{Regular, Pass, Ended, deadlines-held, deadlines-sum, until-ends, round-pass, sweep-pass}
 
 -- What marks say, by the laws of bits.
 pub marks-say : (s : Sheet) (ask : Ask) (R : List ℕ) → MarksSay s ask R

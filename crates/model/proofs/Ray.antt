@@ -20,8 +20,8 @@ use Rattle.laws.proofs.Order.{below-or-from}
 use Rattle.laws.proofs.Fill.{listed-length, listed-at, listed-same, listed-back}
 use Rattle.model.specs.Sheet.{Sheet}
 use Rattle.model.specs.Refine.{Ask, turn}
-use Rattle.model.specs.Ray.{along, Falls}
-use Rattle.model.proofs.Refine.{Regular, Held, down}
+use Rattle.model.specs.Inner.{along, Falls, Held}
+use Rattle.model.proofs.Refine.{Regular, down}
 
 -- Within a step the first k rows have gone down: row i after t steps and its share of the next.
 unfoldable pub within : List ℕ → List ℕ → ℕ → ℕ → ℕ → ℕ

@@ -20,17 +20,12 @@ use Rattle.laws.proofs.Sum.{total-mono, total-same, total-add}
 use Rattle.laws.proofs.Fill.{listed-length, listed-at, same-true, same-self, below-lowers}
 use Rattle.model.specs.Sheet.{Sheet}
 use Rattle.model.specs.Refine.{Ask, deadlines, turn, round, sweep, until, Consistent, Supported}
+use Rattle.model.specs.Inner.{Held}
 
 -- What refinement asks of a one-row answer: it lies from the cost to the deadline, and smaller bounds give a better one.
 pub record Regular (s : Sheet) (ask : Ask) : Type 0 where
   pub within : (k : ℕ) (R : List ℕ) (x : ℕ) → ask k R ≡ some x → (s .cost k ≤ x) × (x ≤ s .deadline k)
   pub keeps-order : (k : ℕ) (Q R : List ℕ) → Below (s .rows) Q R → Better (ask k Q) (ask k R)
-
--- What every set of bounds on the way holds.
-pub record Held (s : Sheet) (ask : Ask) (R : List ℕ) : Type 0 where
-  pub one-each : length R ≡ s .rows
-  pub falls : (k : ℕ) → k < s .rows → turn s ask k R ≤ getD R k 0
-  pub covers : (Q : List ℕ) → Supported s ask Q → Below (s .rows) Q R
 
 -- What a pass does to bounds that hold these: it keeps them, lowers the bounds, and leaves only a consistent set as it is.
 pub record Pass (s : Sheet) (ask : Ask) (pass : List ℕ → List ℕ) : Type 0 where

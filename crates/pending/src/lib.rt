@@ -12,8 +12,8 @@ ghost use lib.ListN.{length, drop};
 ghost use Rattle.laws.specs.Sum.{total};
 ghost use Rattle.laws.specs.Fill.{listed};
 ghost use Rattle.rows.specs.Words.{rowCount, sheetOf};
-ghost use Rattle.refinement.specs.Inner.{Ready, reach};
-ghost use Rattle.refinement.specs.Kept.{KeptRow, KeptRows, Kept, putRow, termAt, topAt, roomAt, keptSum, metTerm, Met};
+ghost use Rattle.refinement.specs.Inner.{Ready, termOf, shareIn, reach};
+ghost use Rattle.refinement.specs.Kept.{KeptRow, KeptOf, Kept, putRow, termAt, topAt, roomAt, keptSum, Met};
 
 // What other rows add at X, and what that comes to for certain, one a step each.
 pub struct Rise {
@@ -86,10 +86,9 @@ pub fn meet(
     others: &mut [u32],
     before: Pending,
 ) -> Pending
-    requires { ⌜ Ready (now words) (now bounds) × (from ≤ to) × (to ≤ rowCount (now words)) × (window ≤ 1_000_000) × KeptRows (now others) (before .left) × ((before .settled) + (before .left) * 1_000_000 ≤ from * 1_000_000) ⌝ }
-    ensures rows { λ r. ⌜ KeptRows (now (others .exit)) (r .left) ⌝ }
-    ensures few { λ r. ⌜ (r .settled) + (r .left) * 1_000_000 ≤ to * 1_000_000 ⌝ }
-    ensures sums { λ r. ⌜ ((x cap : ℕ) → 1 ≤ x → 1 ≤ cap → keptSum (now (others .exit)) (r .left) (r .settled) x cap + total (metTerm (sheetOf (now (words .entry))) (now (bounds .entry)) window x cap) from ≡ keptSum (now (others .entry)) (before .left) (before .settled) x cap + total (metTerm (sheetOf (now (words .entry))) (now (bounds .entry)) window x cap) to) ⌝ }
+    requires { ⌜ Ready (now words) (now bounds) × (from ≤ to) × (to ≤ rowCount (now words)) × (window ≤ 1_000_000) × KeptOf from (now others) (before .left) (before .settled) ⌝ }
+    ensures kept { λ r. ⌜ KeptOf to (now (others .exit)) (r .left) (r .settled) ⌝ }
+    ensures sums { λ r. ⌜ ((x cap : ℕ) → 1 ≤ x → 1 ≤ cap → keptSum (now (others .exit)) (r .left) (r .settled) x cap + total (termOf (sheetOf (now (words .entry))) (now (bounds .entry)) (shareIn (sheetOf (now (words .entry))) (now (bounds .entry)) window) x cap) from ≡ keptSum (now (others .entry)) (before .left) (before .settled) x cap + total (termOf (sheetOf (now (words .entry))) (now (bounds .entry)) (shareIn (sheetOf (now (words .entry))) (now (bounds .entry)) window) x cap) to) ⌝ }
 {
     let mut settled = before.settled;
     let mut left = before.left;

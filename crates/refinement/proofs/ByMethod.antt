@@ -1,17 +1,16 @@
 -- An answer by the method that a number names: 0 is BCL, any other RTA; and an answer as one number, where 0 is none.
-use mathlib.Core.Path.{_≡_, refl, sym, _∙_, ap}
+use mathlib.Core.Path.{_≡_, _∙_, ap}
 use mathlib.Core.List.{List}
-use mathlib.Core.Option.{Option, none, some}
-use Prim.Native.Nat.{ℕ, zero, suc, _≤_, _<_}
+use Prim.Native.Nat.{ℕ, _<_}
 use native.Mathlib.Omega.{arith}
 use Rattle.model.specs.Sheet.{Sheet}
 use Rattle.model.specs.Answer.{bclAnswer, rtaAnswer, methodOf, answer}
 use Rattle.model.proofs.Answer.{method-zero, method-other, answer-within}
 use Rattle.rows.specs.declared.Found.{Found}
-use Rattle.rows.specs.declared.Found.the-variants.{At}
-use Rattle.rows.specs.Words.{rowCount, sheetOf, foundOf}
+use Rattle.rows.specs.Words.{rowCount, sheetOf, foundOf, boundOr, foundFrom}
+use Rattle.rows.proofs.Words.{found-back}
 use Rattle.rows.proofs.Checks.{sound-row}
-use Rattle.refinement.specs.Inner.{Ready, boundOr, foundFrom}
+use Rattle.refinement.specs.Inner.{Ready}
 
 module _ (s : Sheet) (m k : ℕ) (R : List ℕ) (method : ℕ) (found : Found) where
   pub by-bcl : method ≡ 0 → found ≡ foundOf (bclAnswer s m k R) → found ≡ foundOf (answer (methodOf method) s m k R)
@@ -21,18 +20,6 @@ module _ (s : Sheet) (m k : ℕ) (R : List ℕ) (method : ℕ) (found : Found) w
   pub by-rta : (method ≡ 0 → ⊥) → found ≡ foundOf (rtaAnswer s m k R) → found ≡ foundOf (answer (methodOf method) s m k R)
   unfolding answer
   by-rta other is-found = rw (method-other method other) is-found
-
--- A number that is not 0 is a bound.
-pub found-positive : (bound : ℕ) → (bound ≡ 0 → ⊥) → At bound ≡ foundFrom bound
-unfolding foundFrom
-found-positive zero positive = absurd (positive refl)
-found-positive (suc k) positive = refl
-
--- An answer whose bound is not 0 is told by one number.
-pub found-back : (o : Option ℕ) → ((k : ℕ) → o ≡ some k → 1 ≤ k) → foundFrom (boundOr (foundOf o) 0) ≡ foundOf o
-unfolding foundFrom boundOr foundOf
-found-back none positive = refl
-found-back (some k) positive = sym (found-positive k (λ none-left. absurd (omega (arith, positive k refl))))
 
 -- A row's answer is told by one number: its bound is not below its cost, which is not 0.
 pub found-told : (words R : List ℕ) (m k method bound : ℕ) (found : Found) → Ready words R → k < rowCount words

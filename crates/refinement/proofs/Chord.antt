@@ -40,8 +40,8 @@ module _ (l : List ℕ) (left : ℕ) (rows : KeptRows l left) where
       let row = rows .each j h in
       omega (
         arith,
-        slope-below (costAt l j) (periodAt l j) (x + aheadAt l j) (costAt l j * 4_294_967_296 / periodAt l j) 4_294_967_296 (row .by-period)
-            (omega (arith, row .some-cost, row .by-period)) (div-mul-le-self (costAt l j * 4_294_967_296) (periodAt l j)),
+        slope-below (costAt l j) (periodAt l j) (x + aheadAt l j) (costAt l j * 4_294_967_296 / periodAt l j) 4_294_967_296 (row .sizes .by-period)
+            (omega (arith, row .sizes .some-cost, row .sizes .by-period)) (div-mul-le-self (costAt l j * 4_294_967_296) (periodAt l j)),
       )
 
   -- Row j's line, d steps later.

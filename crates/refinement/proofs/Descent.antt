@@ -14,8 +14,8 @@ use Rattle.laws.proofs.Order.{below-or-from}
 use Rattle.laws.specs.Fill.{Below}
 use Rattle.model.specs.Sheet.{Sheet}
 use Rattle.model.specs.Refine.{Ask}
-use Rattle.model.specs.Ray.{along}
-use Rattle.model.proofs.Refine.{Regular, Held}
+use Rattle.model.specs.Inner.{along, Held}
+use Rattle.model.proofs.Refine.{Regular}
 use Rattle.model.proofs.Ray.{next-step, within, within-gone, within-left, stage-at, along-none, along-lower, OnRay, ray-bound, ray-on, ray-skip, ray-ahead}
 use Rattle.rows.specs.Words.{rowCount, sheetOf}
 use Rattle.rows.proofs.Words.{sheet-rows}

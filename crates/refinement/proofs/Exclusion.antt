@@ -69,7 +69,7 @@ module _ (l : List ℕ) (left : ℕ) (rows : KeptRows l left) where
   unfolding termAt roomAt topAt
   term-rises j x cap d h =
       let row = rows .each j h in
-      one-rises (costAt l j) (periodAt l j) (aheadAt l j) (shareAt l j) x cap d (omega (arith, row .some-cost, row .by-period))
+      one-rises (costAt l j) (periodAt l j) (aheadAt l j) (shareAt l j) x cap d (omega (arith, row .sizes .some-cost, row .sizes .by-period))
 
   -- A term is within what it comes to, which is within the share.
   pub term-within : (j x cap : ℕ) → j < left → termAt l x cap j ≤ topAt l x j

@@ -10,8 +10,9 @@ use borrow.Author.Count.{below-more}
 use Rattle.laws.specs.Sum.{total, unless}
 use Rattle.laws.proofs.Sum.{total-same, total-step, total-unless}
 use Rattle.model.specs.Sheet.{Sheet}
-use Rattle.model.specs.Interference.{shareOf, others, rtaTerm}
-use Rattle.refinement.specs.Kept.{costAt, periodAt, aheadAt, shareAt, riseAt, putRow, termFrom, termAt, KeptNumbers, KeptRow, KeptRows, Kept, keptSum, metTerm, Met}
+use Rattle.model.specs.Interference.{shareOf, work, workOf, others, rtaTerm}
+use Rattle.refinement.specs.Inner.{termOf, shareIn}
+use Rattle.refinement.specs.Kept.{costAt, periodAt, aheadAt, shareAt, riseAt, putRow, termFrom, termAt, KeptNumbers, KeptRow, KeptRows, KeptOf, Kept, keptSum, Met}
 use Rattle.refinement.proofs.Limits.{carried-positive}
 use Rattle.refinement.proofs.Exclusion.{one-rises}
 
@@ -132,11 +133,11 @@ module _ (l : List ℕ) (left c t a s r : ℕ) (rows : KeptRows l left) (place :
       holds-kept _ j _ _ _ _ _ (put-other l left c t a s r j (omega arith) place (λ here. omega arith)) (rows .each j h)
 
   -- It is not counted.
-  pub rows-same : KeptRows (putRow l left c t a s r) left
+  rows-same : KeptRows (putRow l left c t a s r) left
   rows-same = record { sized = put-length l left c t a s r ∙ rows .sized; few = rows .few; each = front-kept }
 
   -- It is one more.
-  pub rows-more : KeptNumbers c t a s r → KeptRows (putRow l left c t a s r) (left + 1)
+  rows-more : KeptNumbers c t a s r → KeptRows (putRow l left c t a s r) (left + 1)
   rows-more numbers =
       record {
         sized = put-length l left c t a s r ∙ rows .sized;
@@ -144,6 +145,13 @@ module _ (l : List ℕ) (left c t a s r : ℕ) (rows : KeptRows l left) (place :
         each = below-more (KeptRow (putRow l left c t a s r)) left front-kept
             (holds-kept _ left c t a s r (put-here l left c t a s r (rows .sized) place) numbers);
       }
+
+  -- Either way what is kept and settled is no more than one row more may add.
+  pub kept-more : (passed settled : ℕ) → KeptOf passed l left settled → KeptNumbers c t a s r → KeptOf (passed + 1) (putRow l left c t a s r) (left + 1) settled
+  kept-more passed settled kept numbers = record { rows = rows-more numbers; small = omega (arith, kept .small) }
+
+  pub kept-settled : (passed settled : ℕ) → KeptOf passed l left settled → s ≤ 1_000_000 → KeptOf (passed + 1) (putRow l left c t a s r) left (settled + s)
+  kept-settled passed settled kept small = record { rows = rows-same; small = omega (arith, kept .small) }
 
   -- Counted, it adds what it adds; not counted, what is settled for it.
   pub sum-more : (settled x cap : ℕ) → keptSum (putRow l left c t a s r) (left + 1) settled x cap ≡ keptSum l left settled x cap + termFrom c t a s x cap
@@ -168,15 +176,23 @@ pub whole-share : (c t a s x cap d : ℕ) → 1 ≤ t → s ≤ termFrom c t a s
 whole-share c t a s x cap d some-period whole =
     le-antisymm (omega arith) (le-trans whole (omega (arith, one-rises c t a s x cap d some-period)))
 
+-- A row's term goes by its numbers: its work is counted from how far its bound is above its cost.
+pub term-numbers : (s : Sheet) (R : List ℕ) (given : ℕ → ℕ) (x cap i : ℕ) → s .cost i ≤ getD R i 0
+    → termFrom (s .cost i) (s .period i) (getD R i 0 - s .cost i) (given i) x cap ≡ termOf s R given x cap i
+unfolding termOf workOf work
+term-numbers s R given x cap i from-cost =
+    let time : x + (getD R i 0 - s .cost i) ≡ x + getD R i 0 - s .cost i = omega arith in
+    rw time
+
 -- What the rows before one and the rows behind it add is the right side's sum.
 pub met-all : (s : Sheet) (R : List ℕ) (row window count z first all : ℕ) → row < count → count ≡ s .rows → window ≡ s .deadline row
-    → let each = metTerm s R window z (z - s .cost row + 1) in
+    → let each = termOf s R (shareIn s R window) z (z - s .cost row + 1) in
     first + total each 0 ≡ 0 + total each row
     → all + total each (row + 1) ≡ first + total each count
     → all ≡ others s row (rtaTerm s row R z)
-unfolding total others rtaTerm shareOf metTerm
+unfolding total others rtaTerm shareOf termOf shareIn
 met-all s R row window count z first all inside is-count is-window before behind =
-    let each = metTerm s R window z (z - s .cost row + 1) in
+    let each = termOf s R (shareIn s R window) z (z - s .cost row + 1) in
     let lacks : all ≡ total (unless row each) count = omega (arith, total-unless each row count inside, total-step each row, before, behind) in
     lacks ∙ rw (is-window, is-count)
 

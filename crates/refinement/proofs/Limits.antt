@@ -49,6 +49,6 @@ unfolding work
 work-positive c t r l positive bound window = carried-positive c t (l + r - c) positive (omega arith)
 
 -- No term is above the cap.
-pub term-within-cap : (s : Sheet) (R taken : List ℕ) (x cap i : ℕ) → termOf s R taken x cap i ≤ cap
+pub term-within-cap : (s : Sheet) (R : List ℕ) (given : ℕ → ℕ) (x cap i : ℕ) → termOf s R given x cap i ≤ cap
 unfolding termOf
-term-within-cap s R taken x cap i = omega arith
+term-within-cap s R given x cap i = omega arith

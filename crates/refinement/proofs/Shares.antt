@@ -14,7 +14,7 @@ use Rattle.model.specs.Interference.{shareOf, workOf, others, bclTerm, bclValue
 use Rattle.rows.specs.Words.{rowCount, sheetOf}
 use Rattle.rows.proofs.Words.{sheet-rows}
 use Rattle.rows.proofs.Checks.{sound-row}
-use Rattle.refinement.specs.Inner.{shares, termOf, Prepared}
+use Rattle.refinement.specs.Inner.{shares, listedShare, termOf, Prepared}
 use Rattle.refinement.proofs.Limits.{term-within-cap}
 
 -- A cap above a lower one changes nothing.
@@ -53,11 +53,11 @@ module _ (s : Sheet) (k : ℕ) (R : List ℕ) where
 
   -- At X within the deadline a term from the capped share is RTA's term, and 0 at row k.
   term-at : (x i : ℕ) → x ≤ s .deadline k → i < s .rows
-      → termOf s R (shares s k R) x (x - s .cost k + 1) i ≡ unless k (rtaTerm s k R x) i
+      → termOf s R (listedShare (shares s k R)) x (x - s .cost k + 1) i ≡ unless k (rtaTerm s k R x) i
   unfolding termOf rtaTerm bclTerm
   term-at x i within h = decided (ℕ-discrete i k)
     where
-      decided : Dec (i ≡ k) → termOf s R (shares s k R) x (x - s .cost k + 1) i ≡ unless k (rtaTerm s k R x) i
+      decided : Dec (i ≡ k) → termOf s R (listedShare (shares s k R)) x (x - s .cost k + 1) i ≡ unless k (rtaTerm s k R x) i
       decided (yes here) =
           let nothing : getD (shares s k R) i 0 ≡ 0 = shares-at i h ∙ rw here (unless-here k (bclTerm s k R)) in
           rw (nothing, here, unless-here) (omega arith)
@@ -68,10 +68,10 @@ module _ (s : Sheet) (k : ℕ) (R : List ℕ) where
 
   -- The sum of the terms is RTA's sum over every other place.
   pub terms-sum : (x : ℕ) → x ≤ s .deadline k
-      → total (termOf s R (shares s k R) x (x - s .cost k + 1)) (s .rows) ≡ others s k (rtaTerm s k R x)
+      → total (termOf s R (listedShare (shares s k R)) x (x - s .cost k + 1)) (s .rows) ≡ others s k (rtaTerm s k R x)
   unfolding others
   terms-sum x within =
-      total-same (termOf s R (shares s k R) x (x - s .cost k + 1)) (unless k (rtaTerm s k R x)) (s .rows) (λ i h. term-at x i within h)
+      total-same (termOf s R (listedShare (shares s k R)) x (x - s .cost k + 1)) (unless k (rtaTerm s k R x)) (s .rows) (λ i h. term-at x i within h)
 
 module _ (words R taken : List ℕ) (row count m : ℕ) (prepared : Prepared words R taken row count m) where
   -- As many rows as the sheet has.
@@ -94,12 +94,12 @@ module _ (words R taken : List ℕ) (row count m : ℕ) (prepared : Prepared wor
   shares-sum-small =
       omega (arith, total-within (λ i. getD taken i 0) 1_000_000 count prepared-small, prepared .counted, prepared .ready .rows .at-most)
 
-  pub terms-sum-small : (x cap : ℕ) → cap ≤ 1_000_000 → total (termOf (sheetOf words) R taken x cap) count ≤ 64_000_000
+  pub terms-sum-small : (x cap : ℕ) → cap ≤ 1_000_000 → total (termOf (sheetOf words) R (listedShare taken) x cap) count ≤ 64_000_000
   terms-sum-small x cap small =
       omega (
         arith,
-        total-within (termOf (sheetOf words) R taken x cap) 1_000_000 count
-            (λ i h. le-trans (term-within-cap (sheetOf words) R taken x cap i) small),
+        total-within (termOf (sheetOf words) R (listedShare taken) x cap) 1_000_000 count
+            (λ i h. le-trans (term-within-cap (sheetOf words) R (listedShare taken) x cap i) small),
         prepared .counted,
         prepared .ready .rows .at-most,
       )
@@ -118,13 +118,13 @@ module _ (words R taken : List ℕ) (row count m : ℕ) (prepared : Prepared wor
 
   -- RTA's right side from the terms.
   pub right-from-terms : (own sum x : ℕ) → own ≡ (sheetOf words) .cost row → x ≤ (sheetOf words) .deadline row
-      → sum ≡ total (termOf (sheetOf words) R taken x (x - own + 1)) count → own + sum / m ≡ rtaRight (sheetOf words) m row R x
+      → sum ≡ total (termOf (sheetOf words) R (listedShare taken) x (x - own + 1)) count → own + sum / m ≡ rtaRight (sheetOf words) m row R x
   unfolding rtaRight
   right-from-terms own sum x is-cost within is-sum =
       let all : sum ≡ others (sheetOf words) row (rtaTerm (sheetOf words) row R x) =
       is-sum
-      ∙ ap (total (termOf (sheetOf words) R taken x (x - own + 1))) prepared-rows
-      ∙ ap (λ (l : List ℕ). total (termOf (sheetOf words) R l x (x - own + 1)) ((sheetOf words) .rows)) (prepared .shared)
-      ∙ ap (λ (c : ℕ). total (termOf (sheetOf words) R (shares (sheetOf words) row R) x (x - c + 1)) ((sheetOf words) .rows)) is-cost
+      ∙ ap (total (termOf (sheetOf words) R (listedShare taken) x (x - own + 1))) prepared-rows
+      ∙ ap (λ (l : List ℕ). total (termOf (sheetOf words) R (listedShare l) x (x - own + 1)) ((sheetOf words) .rows)) (prepared .shared)
+      ∙ ap (λ (c : ℕ). total (termOf (sheetOf words) R (listedShare (shares (sheetOf words) row R)) x (x - c + 1)) ((sheetOf words) .rows)) is-cost
       ∙ terms-sum (sheetOf words) row R x within in
       cc

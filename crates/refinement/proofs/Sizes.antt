@@ -7,14 +7,8 @@ use Rattle.rows.specs.Words.{rowCount}
 use Rattle.rows.proofs.Words.{cost-word, period-word}
 use Rattle.rows.proofs.Checks.{sound-row}
 use Rattle.refinement.specs.Inner.{Ready}
+use Rattle.refinement.specs.Kept.{Sizes}
 use Rattle.refinement.proofs.Limits.{bound-in-range}
-
-pub record Sizes (cost period bound : ℕ) : Type 0 where
-  pub some-cost : 1 ≤ cost
-  pub by-period : cost ≤ period
-  pub small : period ≤ 1_000_000
-  pub from-cost : cost ≤ bound
-  pub by-limit : bound ≤ 1_000_000
 
 pub sizes : (words R : List ℕ) → Ready words R → (i : ℕ) → i < rowCount words
     → Sizes (getD words (3 * i) 0) (getD words (3 * i + 2) 0) (getD R i 0)

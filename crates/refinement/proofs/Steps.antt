@@ -23,14 +23,15 @@ use Rattle.laws.proofs.Bits.{bits-next, bit-below}
 use Rattle.model.specs.Sheet.{Sheet}
 use Rattle.model.specs.Answer.{methodOf}
 use Rattle.model.specs.Refine.{Ask, turn, round, sweep, marked, marks}
-use Rattle.model.proofs.Refine.{Regular, Held, Pass, turn-from-cost, one-turn-lowers, sweep-held, sweep-lowers, round-pass, sum-falls}
+use Rattle.model.specs.Inner.{Held}
+use Rattle.model.proofs.Refine.{Regular, Pass, turn-from-cost, one-turn-lowers, sweep-held, sweep-lowers, round-pass, sum-falls}
 use Rattle.model.proofs.Methods.{answer-regular}
 use Rattle.rows.specs.declared.Found.{Found}
-use Rattle.rows.specs.Words.{rowCount, sheetOf, foundOf}
+use Rattle.rows.specs.Words.{rowCount, sheetOf, foundOf, boundOr}
 use Rattle.rows.proofs.Words.{sheet-rows}
 use Rattle.rows.proofs.Checks.{sound-row}
 use Rattle.refinement.specs.Refinement.{askOf}
-use Rattle.refinement.specs.Inner.{Ready, boundOr, isFound, boundsSum, AfterPass, Copied}
+use Rattle.refinement.specs.Inner.{Ready, isFound, boundsSum, AfterPass, Copied}
 
 -- The bound of an answer, and whether there is one, as the code says it and as the definitions say it.
 bound-or-else : (o : Option ℕ) (deadline : ℕ) → boundOr (foundOf o) deadline ≡ orElse o deadline

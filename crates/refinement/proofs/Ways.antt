@@ -17,7 +17,7 @@ use Rattle.model.specs.Sheet.{Sheet}
 use Rattle.model.specs.Interference.{share, carried, work, shareOf, workOf, others, bclTerm, bclValue, rtaTerm, rtaRight}
 use Rattle.model.specs.Answer.{Method, BCL, RTA, methodOf, answer}
 use Rattle.model.specs.Refine.{turn}
-use Rattle.model.specs.Ray.{along, Falls}
+use Rattle.model.specs.Inner.{along, Falls}
 use Rattle.model.proofs.Answer.{method-zero, method-other, answer-fixed, answer-within, rta-below}
 use Rattle.model.proofs.Ray.{next-step, within}
 use Rattle.rows.specs.Words.{rowCount, sheetOf}

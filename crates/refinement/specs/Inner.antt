@@ -2,14 +2,14 @@
 use mathlib.Core.Path.{_≡_}
 use mathlib.Core.Bool.{Bool, true, false}
 use mathlib.Core.List.{List}
-use Prim.Native.Nat.{ℕ, zero, suc, _+_, _*_, _-_, _≤_, _<_, min}
+use Prim.Native.Nat.{ℕ, _+_, _*_, _-_, _≤_, _<_, min}
 use lib.Dec.{eqb}
 use lib.ListN.{length, getD}
 use Rattle.laws.specs.Choice.{pick}
 use Rattle.laws.specs.Sum.{total, unless}
 use Rattle.laws.specs.Fill.{listed}
 use Rattle.model.specs.Sheet.{Sheet}
-use Rattle.model.specs.Interference.{workOf, bclTerm}
+use Rattle.model.specs.Interference.{share, workOf, bclTerm}
 use Rattle.model.specs.Refine.{Ask, marks}
 use Rattle.rows.specs.declared.Found.{Found}
 use Rattle.rows.specs.declared.Found.the-variants.{At, Nowhere}
@@ -35,9 +35,17 @@ pub record WindowOf (s : Sheet) (row window cap : ℕ) : Type 0 where
   pub by-deadline : window ≡ s .deadline row
   pub by-cost : cap ≡ s .deadline row - s .cost row + 1
 
--- What one other row adds to the right side at X: its work, its share as worked out before, or the cap, whichever is least.
-unfoldable pub termOf : Sheet → List ℕ → List ℕ → ℕ → ℕ → ℕ → ℕ
-termOf s R taken x cap i = min (workOf s R x i) (min (getD taken i 0) cap)
+-- What one other row adds to the right side at X, with the share that it is given: its work, that share, or the cap, whichever is least.
+unfoldable pub termOf : Sheet → List ℕ → (ℕ → ℕ) → ℕ → ℕ → ℕ → ℕ
+termOf s R given x cap i = min (workOf s R x i) (min (given i) cap)
+
+-- Shares as a list holds them.
+abbrev pub listedShare : List ℕ → ℕ → ℕ
+listedShare taken i = getD taken i 0
+
+-- The share of row i in a window.
+unfoldable pub shareIn : Sheet → List ℕ → ℕ → ℕ → ℕ
+shareIn s R window i = share (s .cost i) (s .deadline i) (s .period i) (getD R i 0) window
 
 -- A row under question, with what the others take worked out.
 pub record Prepared (words R taken : List ℕ) (row count processors : ℕ) : Type 0 where
@@ -46,16 +54,6 @@ pub record Prepared (words R taken : List ℕ) (row count processors : ℕ) : Ty
   pub counted : count ≡ rowCount words
   pub shared : taken ≡ shares (sheetOf words) row R
   pub some-processor : 1 ≤ processors
-
--- The bound of an answer as the code says it, or another number where there is none.
-unfoldable pub boundOr : Found → ℕ → ℕ
-boundOr (At bound) deadline = bound
-boundOr Nowhere deadline = deadline
-
--- An answer from one number, where 0 stands for none.
-unfoldable pub foundFrom : ℕ → Found
-foundFrom zero = Nowhere
-foundFrom (suc k) = At (suc k)
 
 -- Whether there is an answer.
 unfoldable pub isFound : Found → Bool

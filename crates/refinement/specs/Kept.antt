@@ -5,7 +5,7 @@ use Prim.Native.Nat.{ℕ, _+_, _*_, _-_, _/_, _≤_, _<_, min}
 use lib.ListN.{length, getD, set}
 use Rattle.laws.specs.Sum.{total}
 use Rattle.model.specs.Sheet.{Sheet}
-use Rattle.model.specs.Interference.{share, carried, workOf, others, rtaTerm}
+use Rattle.model.specs.Interference.{carried, others, rtaTerm}
 use Rattle.refinement.specs.Inner.{reach}
 
 -- The numbers of row j of a list: its cost, its period, how far its bound is above the cost, its share, and what a period brings.
@@ -49,12 +49,17 @@ roomAt l x cap j = topAt l x j - termAt l x cap j
 unfoldable pub lineAt : List ℕ → ℕ → ℕ → ℕ → ℕ
 lineAt l x cap j = min (costAt l j * 4_294_967_296 / periodAt l j * (x + aheadAt l j)) (4_294_967_296 * min (shareAt l j) cap)
 
+-- The cost and the period of an allowed row, and a bound in range.
+pub record Sizes (cost period bound : ℕ) : Type 0 where
+  pub some-cost : 1 ≤ cost
+  pub by-period : cost ≤ period
+  pub small : period ≤ 1_000_000
+  pub from-cost : cost ≤ bound
+  pub by-limit : bound ≤ 1_000_000
+
 -- Numbers as an allowed row has them.
 pub record KeptNumbers (c t a s r : ℕ) : Type 0 where
-  pub some-cost : 1 ≤ c
-  pub by-period : c ≤ t
-  pub small-period : t ≤ 1_000_000
-  pub small-ahead : a ≤ 1_000_000
+  pub sizes : Sizes c t (c + a)
   pub small-share : s ≤ 1_000_000
   pub small-rise : r ≤ 2_000_000
   pub comes : (whole : ℕ) → min (whole + r) s ≡ reach c t whole s
@@ -68,10 +73,14 @@ pub record KeptRows (l : List ℕ) (left : ℕ) : Type 0 where
   pub few : left ≤ 64
   pub each : (j : ℕ) → j < left → KeptRow l j
 
--- Such rows, and what is settled for others: together small enough for every sum.
-pub record Kept (l : List ℕ) (left settled : ℕ) : Type 0 where
+-- Such rows, and what is settled for others: together no more than so many rows may add.
+pub record KeptOf (passed : ℕ) (l : List ℕ) (left settled : ℕ) : Type 0 where
   pub rows : KeptRows l left
-  pub small : settled + left * 1_000_000 ≤ 64_000_000
+  pub small : settled + left * 1_000_000 ≤ passed * 1_000_000
+
+-- The same of as many rows as a sheet may have: small enough for every sum.
+abbrev pub Kept : List ℕ → ℕ → ℕ → Type 0
+Kept = KeptOf 64
 
 -- A number from a row's cost to its deadline.
 pub record Tried (own top x : ℕ) : Type 0 where
@@ -84,11 +93,7 @@ pub record Tried (own top x : ℕ) : Type 0 where
 abbrev pub keptSum : List ℕ → ℕ → ℕ → ℕ → ℕ → ℕ
 keptSum l left settled x cap = settled + total (termAt l x cap) left
 
--- What row i of a sheet adds at X, with its share in a window.
-unfoldable pub metTerm : Sheet → List ℕ → ℕ → ℕ → ℕ → ℕ → ℕ
-metTerm s R window x cap i = min (workOf s R x i) (min (share (s .cost i) (s .deadline i) (s .period i) (getD R i 0) window) cap)
-
--- From X on it is what all rows but one add to the right side of the RTA equation.
+-- From X on, what is settled and what the rows kept add is what all rows but one add to the right side of the RTA equation.
 pub record Met (s : Sheet) (R l : List ℕ) (row left settled x : ℕ) : Type 0 where
   pub kept : Kept l left settled
   pub fewer : left ≤ s .rows

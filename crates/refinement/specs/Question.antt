@@ -42,11 +42,6 @@ oneRow words processors method bounds row =
     unlessRefused (refusal .number) (record { refusal = refusal .number; place = refusal .place; answer = Nowhere })
     (record { refusal = 0; place = 0; answer = foundOf (answer (methodOf method) (sheetOf words) processors row bounds) })
 
--- An answer as a number: a bound is itself, and none is 0, which no bound is.
-unfoldable pub boundNumber : Found → ℕ
-boundNumber (At bound) = bound
-boundNumber Nowhere = 0
-
 -- An answer as document 01 says it: a bound, or none.
 unfoldable pub answerOf : Found → Option ℕ
 answerOf (At bound) = some bound

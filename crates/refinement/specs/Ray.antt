@@ -10,8 +10,7 @@ use Rattle.model.specs.Sheet.{Sheet}
 use Rattle.model.specs.Interference.{others, bclTerm, rtaTerm}
 use Rattle.model.specs.Answer.{Method, BCL, RTA}
 use Rattle.model.specs.Refine.{Ask}
-use Rattle.model.specs.Ray.{along, Falls}
-use Rattle.model.proofs.Refine.{Held}
+use Rattle.model.specs.Inner.{along, Falls, Held}
 use Rattle.rows.specs.Words.{rowCount, sheetOf}
 use Rattle.refinement.specs.Inner.{Ready}
 

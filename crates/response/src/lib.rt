@@ -11,13 +11,13 @@ ghost use lib.ListN.{length, getD};
 ghost use Rattle.laws.specs.Sum.{total};
 ghost use Rattle.model.specs.Interference.{rtaRight};
 ghost use Rattle.model.specs.Answer.{bclAnswer, rtaAnswer, methodOf, answer};
-ghost use Rattle.rows.specs.Words.{rowCount, sheetOf, foundOf};
-ghost use Rattle.refinement.specs.Inner.{Ready, Prepared, termOf, boundOr, foundFrom};
+ghost use Rattle.rows.specs.Words.{rowCount, sheetOf, foundOf, boundOr, foundFrom};
+ghost use Rattle.refinement.specs.Inner.{Ready, Prepared, listedShare, termOf};
 
 // What another row adds at X. Where the share or the cap is 0 or 1 it is the least, and no division is needed.
 pub fn term(words: &[u32], bounds: &[u32], taken: &[u32], other: u32, x: u32, cap: u32) -> u32
     requires { ⌜ Ready (now words) (now bounds) × (other < rowCount (now words)) × (length (now taken) ≡ rowCount (now words)) × (1 ≤ x) × (x ≤ 1_000_000) ⌝ }
-    ensures { λ r. ⌜ r ≡ termOf (sheetOf (now (words .entry))) (now (bounds .entry)) (now (taken .entry)) x cap other ⌝ }
+    ensures { λ r. ⌜ r ≡ termOf (sheetOf (now (words .entry))) (now (bounds .entry)) (listedShare (now (taken .entry))) x cap other ⌝ }
 {
     let most = lesser(taken[other as usize], cap);
     if most <= 1 {
@@ -39,7 +39,7 @@ pub fn sum_of_terms(
     cap: u32,
 ) -> u32
     requires { ⌜ Ready (now words) (now bounds) × (count ≡ rowCount (now words)) × (length (now taken) ≡ count) × (1 ≤ x) × (x ≤ 1_000_000) × (cap ≤ 1_000_000) ⌝ }
-    ensures { λ r. ⌜ r ≡ total (termOf (sheetOf (now (words .entry))) (now (bounds .entry)) (now (taken .entry)) x cap) count ⌝ }
+    ensures { λ r. ⌜ r ≡ total (termOf (sheetOf (now (words .entry))) (now (bounds .entry)) (listedShare (now (taken .entry))) x cap) count ⌝ }
 {
     let mut sum = 0;
     let mut other = 0;
@@ -171,25 +171,4 @@ pub fn answer_row(
         method,
         &mut taken[..end],
     )
-}
-
-// The bound of an answer, or another number where there is none.
-pub fn bound_or(found: Found, other: u32) -> u32
-    ensures { λ r. ⌜ r ≡ boundOr found other ⌝ }
-{
-    match found {
-        Found::At(bound) => bound,
-        Found::Nowhere => other,
-    }
-}
-
-// An answer from one number, where 0 stands for none.
-pub fn found_of(bound: u32) -> Found
-    ensures { λ r. ⌜ r ≡ foundFrom bound ⌝ }
-{
-    if bound == 0 {
-        Found::Nowhere
-    } else {
-        Found::At(bound)
-    }
 }

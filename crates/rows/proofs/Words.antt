@@ -1,14 +1,14 @@
 -- What stands in lent words, by place: definitions put side by side.
-use mathlib.Core.Path.{_≡_, refl}
+use mathlib.Core.Path.{_≡_, refl, sym}
 use mathlib.Core.Bool.{not}
 use mathlib.Core.List.{List}
 use mathlib.Core.Option.{Option, none, some}
-use Prim.Native.Nat.{ℕ, _+_, _*_}
+use Prim.Native.Nat.{ℕ, zero, suc, _+_, _*_, _≤_}
 use native.Mathlib.Omega.{arith}
 use lib.ListN.{getD}
 use Rattle.model.specs.Sheet.{triples, rowAllowedAt}
 use Rattle.rows.specs.declared.Found.the-variants.{At, Nowhere}
-use Rattle.rows.specs.Words.{rowCount, sheetOf, outside, foundOf}
+use Rattle.rows.specs.Words.{rowCount, sheetOf, outside, foundOf, boundOr, foundFrom}
 
 -- The sheet that words say has as many rows as the words hold.
 pub sheet-rows : (words : List ℕ) → (sheetOf words) .rows ≡ rowCount words
@@ -43,3 +43,15 @@ found-none (some j) same = let never : _≡_ {A = ℕ} 0 1 = cc in absurd (omega
 pub counted-anyhow : (n : ℕ) (words : List ℕ) (k : ℕ) → outside (triples n words) k ≡ not (rowAllowedAt (sheetOf words) k)
 unfolding outside sheetOf triples rowAllowedAt
 counted-anyhow n words k = refl
+
+-- A number that is not 0 is a bound.
+pub found-positive : (bound : ℕ) → (bound ≡ 0 → ⊥) → At bound ≡ foundFrom bound
+unfolding foundFrom
+found-positive zero positive = absurd (positive refl)
+found-positive (suc k) positive = refl
+
+-- An answer whose bound is not 0 is told by one number.
+pub found-back : (o : Option ℕ) → ((k : ℕ) → o ≡ some k → 1 ≤ k) → foundFrom (boundOr (foundOf o) 0) ≡ foundOf o
+unfolding foundFrom boundOr foundOf
+found-back none positive = refl
+found-back (some k) positive = sym (found-positive k (λ none-left. absurd (omega (arith, positive k refl))))

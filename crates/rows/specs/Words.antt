@@ -2,7 +2,7 @@
 use mathlib.Core.Bool.{Bool, not}
 use mathlib.Core.List.{List}
 use mathlib.Core.Option.{Option, none, some}
-use Prim.Native.Nat.{ℕ, _/_}
+use Prim.Native.Nat.{ℕ, zero, suc, _/_}
 use lib.ListN.{length}
 use Rattle.laws.specs.Search.{least}
 use Rattle.model.specs.Sheet.{Sheet, triples, rowAllowedAt}
@@ -29,3 +29,17 @@ firstOutside s = least (outside s) 0 (s .rows)
 unfoldable pub foundOf : Option ℕ → Found
 foundOf none = Nowhere
 foundOf (some k) = At k
+
+-- What was found, or another number where nothing was.
+unfoldable pub boundOr : Found → ℕ → ℕ
+boundOr (At bound) other = bound
+boundOr Nowhere other = other
+
+-- An answer as a number: a bound is itself, and none is 0, which no bound is.
+abbrev pub boundNumber : Found → ℕ
+boundNumber found = boundOr found 0
+
+-- An answer from such a number.
+unfoldable pub foundFrom : ℕ → Found
+foundFrom zero = Nowhere
+foundFrom (suc k) = At (suc k)

@@ -6,7 +6,7 @@ use inner::shape_refusal;
 use inner::word_at;
 ghost use mathlib.Core.Path.{_≡_};
 ghost use Rattle.model.specs.Sheet.{triples};
-ghost use Rattle.rows.specs.Words.{rowCount, sheetOf, foundOf, firstOutside};
+ghost use Rattle.rows.specs.Words.{rowCount, sheetOf, firstOutside, foundOf, boundOr, foundFrom};
 ghost use Rattle.rows.specs.Checks.{rangeRefusal, processorsRefusal, methodRefusal, roomRefusal, firstOf, wordsRefusal};
 
 // What a search found: a place or a length, or that there is none.
@@ -47,6 +47,27 @@ pub fn row_count(words: &[u32]) -> usize
     ensures { λ r. ⌜ r ≡ rowCount (now (words .entry)) ⌝ }
 {
     words.len() / 3
+}
+
+// What was found, or another number where nothing was.
+pub fn bound_or(found: Found, other: u32) -> u32
+    ensures { λ r. ⌜ r ≡ boundOr found other ⌝ }
+{
+    match found {
+        Found::At(bound) => bound,
+        Found::Nowhere => other,
+    }
+}
+
+// What a number says was found: nothing where it is 0.
+pub fn found_of(bound: u32) -> Found
+    ensures { λ r. ⌜ r ≡ foundFrom bound ⌝ }
+{
+    if bound == 0 {
+        Found::Nowhere
+    } else {
+        Found::At(bound)
+    }
 }
 
 // The first of so many rows that is outside the sizes allowed.

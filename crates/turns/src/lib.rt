@@ -3,19 +3,19 @@ use interference::fill_shares;
 use jumps::rta_quickly;
 use response::answer_row;
 use response::bcl_row;
-use response::bound_or;
-use response::found_of;
 use rows::Found;
+use rows::bound_or;
 use rows::deadline;
+use rows::found_of;
 ghost use mathlib.Core.Path.{_≡_};
 ghost use Prim.Native.Nat.{_+_, _≤_, _<_, _*_, _^_};
 ghost use lib.ListN.{length};
 ghost use Rattle.model.specs.Answer.{methodOf, answer};
-ghost use Rattle.rows.specs.Words.{rowCount, sheetOf, foundOf};
-ghost use Rattle.refinement.specs.Inner.{Ready, boundOr, isFound, AfterPass};
+ghost use Rattle.rows.specs.Words.{rowCount, sheetOf, foundOf, boundOr};
+ghost use Rattle.refinement.specs.Inner.{Ready, isFound, AfterPass};
 ghost use Rattle.laws.specs.Bits.{bit};
 ghost use Rattle.model.specs.Refine.{round, sweep, marks};
-ghost use Rattle.model.proofs.Refine.{Held};
+ghost use Rattle.model.specs.Inner.{Held};
 ghost use Rattle.refinement.specs.Refinement.{askOf};
 
 // One row's bound by either method, RTA's by jumps, and 0 where there is none, with space for the other rows and for what each of them takes.

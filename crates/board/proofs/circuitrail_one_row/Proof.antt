@@ -8,12 +8,12 @@ use Rattle.board.proofs.circuitrail_one_row.Tie as tie
 one-row-requires : tie.Need-one-row-requires
 one-row-requires c κs = search needs
 
-bound-number-requires : tie.Need-bound-number-requires
-bound-number-requires c κs = search needs
+bound-or-requires : tie.Need-bound-or-requires
+bound-or-requires c κs = search needs
 
 returns : tie.Need-returns
 unfolding rowInNumbers
-returns c = rw (c .bound-number .ensures) (ap rowInNumbers (c .before .one-row .ensures))
+returns c = rw (c .bound-or .ensures) (ap rowInNumbers (c .before .one-row .ensures))
 
 pub circuitrail-one-row-spec : {M : Type 1} → statement M
-circuitrail-one-row-spec = tie.close (tie.spec one-row-requires bound-number-requires returns)
+circuitrail-one-row-spec = tie.close (tie.spec one-row-requires bound-or-requires returns)

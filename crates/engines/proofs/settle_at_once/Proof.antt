@@ -7,7 +7,8 @@ use lib.ListN.{length}
 use native.Mathlib.Nat.{lt-of-le-of-lt}
 use native.Mathlib.Omega.{arith}
 use Rattle.model.specs.Refine.{sweep}
-use Rattle.model.proofs.Refine.{Held, sweep-pass}
+use Rattle.model.specs.Inner.{Held}
+use Rattle.model.proofs.Refine.{sweep-pass}
 use Rattle.model.proofs.Engines.{sweep-settled}
 use Rattle.rows.specs.Words.{sheetOf}
 use Rattle.rows.proofs.Words.{sheet-rows}

@@ -3,7 +3,8 @@ use mathlib.Core.Path.{_≡_, sym, _∙_}
 use denote.Ref.{now}
 use borrow.Author.Tests.{not-true, not-false}
 use lib.ListN.{length}
-use Rattle.model.proofs.Refine.{Held, round-pass}
+use Rattle.model.specs.Inner.{Held}
+use Rattle.model.proofs.Refine.{round-pass}
 use Rattle.model.proofs.Engines.{round-settled}
 use Rattle.rows.specs.Words.{sheetOf}
 use Rattle.refinement.specs.Refinement.{askOf}

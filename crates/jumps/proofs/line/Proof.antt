@@ -34,10 +34,10 @@ shared-slice-read-slope : tie.Need-shared-slice-read-slope
 shared-slice-read-slope c = search needs
 
 cast-slope : tie.Need-cast-slope
-cast-slope c = let p = c .before .before .before .before in let row = p .pre .2 in omega (arith, row .some-cost, row .by-period, row .small-period, row .small-ahead, row .small-share, p .pre .3)
+cast-slope c = let p = c .before .before .before .before in let row = p .pre .2 in omega (arith, row .sizes .some-cost, row .sizes .by-period, row .sizes .small, row .sizes .by-limit, row .small-share, p .pre .3)
 
 mul-slope-2 : tie.Need-mul-slope-2
-mul-slope-2 c = let p = c .before .before .before .before in let row = p .pre .2 in omega (arith, row .some-cost, row .by-period, row .small-period, row .small-ahead, row .small-share, p .pre .3)
+mul-slope-2 c = let p = c .before .before .before .before in let row = p .pre .2 in omega (arith, row .sizes .some-cost, row .sizes .by-period, row .sizes .small, row .sizes .by-limit, row .small-share, p .pre .3)
 
 add-slope : tie.Need-add-slope
 add-slope c = search needs
@@ -49,10 +49,10 @@ shared-slice-read-slope-2 : tie.Need-shared-slice-read-slope-2
 shared-slice-read-slope-2 c = search needs
 
 cast-slope-2 : tie.Need-cast-slope-2
-cast-slope-2 c = let p = c .before .before .before .before .before in let row = p .pre .2 in omega (arith, row .some-cost, row .by-period, row .small-period, row .small-ahead, row .small-share, p .pre .3)
+cast-slope-2 c = let p = c .before .before .before .before .before in let row = p .pre .2 in omega (arith, row .sizes .some-cost, row .sizes .by-period, row .sizes .small, row .sizes .by-limit, row .small-share, p .pre .3)
 
 div-slope : tie.Need-div-slope
-div-slope c = let p = c .before .before .before .before .before in let row = p .pre .2 in omega (arith, row .some-cost, row .by-period, row .small-period, row .small-ahead, row .small-share, p .pre .3)
+div-slope c = let p = c .before .before .before .before .before in let row = p .pre .2 in omega (arith, row .sizes .some-cost, row .sizes .by-period, row .sizes .small, row .sizes .by-limit, row .small-share, p .pre .3)
 
 add-level : tie.Need-add-level
 add-level c = search needs
@@ -64,18 +64,18 @@ shared-slice-read-level : tie.Need-shared-slice-read-level
 shared-slice-read-level c = search needs
 
 add-level-2 : tie.Need-add-level-2
-add-level-2 c = let p = c .before .before .before .before .before .before in let row = p .pre .2 in omega (arith, row .some-cost, row .by-period, row .small-period, row .small-ahead, row .small-share, p .pre .3)
+add-level-2 c = let p = c .before .before .before .before .before .before in let row = p .pre .2 in omega (arith, row .sizes .some-cost, row .sizes .by-period, row .sizes .small, row .sizes .by-limit, row .small-share, p .pre .3)
 
 cast-level : tie.Need-cast-level
-cast-level c = let p = c .before .before .before .before .before .before in let row = p .pre .2 in omega (arith, row .some-cost, row .by-period, row .small-period, row .small-ahead, row .small-share, p .pre .3)
+cast-level c = let p = c .before .before .before .before .before .before in let row = p .pre .2 in omega (arith, row .sizes .some-cost, row .sizes .by-period, row .sizes .small, row .sizes .by-limit, row .small-share, p .pre .3)
 
 mul-level-2 : tie.Need-mul-level-2
 mul-level-2 c =
     let p = c .before .before .before .before .before .before in
     let l = now (p .args .others) in
     let j = p .args .place in
-    let within : p .args .x + aheadAt l j ≤ 2_000_000 = omega (arith, p .pre .3, p .pre .2 .small-ahead) in
-    omega (arith, mul-le-mul (slope-small (costAt l j) (periodAt l j) (p .pre .2 .by-period)) within)
+    let within : p .args .x + aheadAt l j ≤ 2_000_000 = omega (arith, p .pre .3, p .pre .2 .sizes .by-limit) in
+    omega (arith, mul-le-mul (slope-small (costAt l j) (periodAt l j) (p .pre .2 .sizes .by-period)) within)
 
 returns : tie.Need-returns
 unfolding lineAt

@@ -13,10 +13,9 @@ use Rattle.laws.proofs.Climb.{Climbed, climbed-first}
 use Rattle.model.specs.Interference.{rtaRight}
 use Rattle.model.proofs.Interference.{rtaRight-from-cost}
 use Rattle.model.proofs.Answer.{climb-found, climb-none}
-use Rattle.rows.specs.Words.{sheetOf, foundOf}
+use Rattle.rows.specs.Words.{sheetOf, foundOf, boundOr}
 use Rattle.rows.proofs.Words.{sheet-rows}
 use Rattle.rows.proofs.Checks.{sound-row}
-use Rattle.refinement.specs.Inner.{boundOr}
 use Rattle.refinement.specs.Kept.{Kept, Tried, keptSum, Met}
 use Rattle.refinement.proofs.Kept.{met-kept}
 use Rattle.refinement.proofs.Exclusion.{right-stands, climb-on}

@@ -7,8 +7,8 @@ use Prim.Native.Nat.{ℕ, _+_, _*_, _-_, _≤_, _<_}
 use denote.Ref.{now}
 use Rattle.laws.specs.Sum.{total}
 use Rattle.laws.proofs.Sum.{total-step}
-use Rattle.refinement.specs.Kept.{costAt, periodAt, aheadAt, shareAt, riseAt, termFrom, termAt, KeptRow, KeptRows, keptSum}
-use Rattle.refinement.proofs.Kept.{Holds, put-other, holds-term, holds-kept, holds-through, holds-self, rows-same, rows-more, sum-more, sum-settled, whole-share}
+use Rattle.refinement.specs.Kept.{costAt, periodAt, aheadAt, shareAt, riseAt, termFrom, termAt, KeptRow, KeptOf, keptSum}
+use Rattle.refinement.proofs.Kept.{Holds, put-other, holds-term, holds-kept, holds-through, holds-self, kept-more, kept-settled, sum-more, sum-settled, whole-share}
 use Rattle.pending.proofs.keep_pending.Statement.{statement}
 use Rattle.pending.proofs.keep_pending.Tie as tie
 
@@ -16,8 +16,7 @@ abbrev Inv-loop : tie.InvT-loop
 Inv-loop others₀ x cap all settled₀ left₀ next₀ others settled left next =
     (next ≤ all)
     × (left ≤ next)
-    × KeptRows others left
-    × (settled + (left + (all - next)) * 1_000_000 ≤ 64_000_000)
+    × KeptOf (64 - (all - next)) others left settled
     × ((j : ℕ) → next ≤ j → j < 64 → Holds others j (costAt others₀ j) (periodAt others₀ j) (aheadAt others₀ j) (shareAt others₀ j) (riseAt others₀ j))
     × ((d : ℕ) → keptSum others left settled (x + d) (cap + d) ≡ settled₀ + total (termAt others₀ (x + d) (cap + d)) next)
 
@@ -30,8 +29,10 @@ loop-holds c =
     let p = c .before in (
       omega arith,
       omega arith,
-      record { sized = p .pre .0 .rows .sized; few = omega arith; each = λ j h. absurd (omega arith) },
-      omega (arith, p .pre .0 .small),
+      record {
+        rows = record { sized = p .pre .0 .rows .sized; few = omega arith; each = λ j h. absurd (omega arith) };
+        small = omega (arith, p .pre .0 .small);
+      },
       λ j from place. holds-self _ j,
       λ d. refl,
     )
@@ -40,7 +41,7 @@ loop-holds c =
 stands : (c : tie.In-loop Inv-loop μ-loop) → let l = now (c .before .before .before .args .others) in
     let q = c .before .loop in
     Holds (q .others) (q .next) (costAt l (q .next)) (periodAt l (q .next)) (aheadAt l (q .next)) (shareAt l (q .next)) (riseAt l (q .next))
-stands c = c .before .loop .inv .4 (c .before .loop .next) (omega arith) (omega (arith, c .before .before .before .pre .0 .rows .few))
+stands c = c .before .loop .inv .3 (c .before .loop .next) (omega arith) (omega (arith, c .before .before .before .pre .0 .rows .few))
 
 kept : (c : tie.In-loop Inv-loop μ-loop) → KeptRow (c .before .loop .others) (c .before .loop .next)
 kept c = holds-kept _ _ _ _ _ _ _ (stands c) (c .before .before .before .pre .0 .rows .each (c .before .loop .next) (omega arith))
@@ -56,13 +57,13 @@ passed c d =
     let q = c .before .loop in
     omega (
       arith,
-      q .inv .5 d,
+      q .inv .4 d,
       total-step (termAt (now (p .args .others)) (p .args .x + d) (p .args .cap + d)) (q .next),
       holds-term _ _ _ _ _ _ _ (stands c) (p .args .x + d) (p .args .cap + d),
     )
 
 term-and-top-requires : tie.Need-term-and-top-requires Inv-loop μ-loop
-term-and-top-requires c κs = let q = c .before .before .loop in (q .inv .2 .sized, omega (arith, c .before .before .before .before .pre .0 .rows .few), kept (c .before), c .before .before .before .before .pre .1)
+term-and-top-requires c κs = let q = c .before .before .loop in (q .inv .2 .rows .sized, omega (arith, c .before .before .before .before .pre .0 .rows .few), kept (c .before), c .before .before .before .before .pre .1)
 
 cast-at : tie.Need-cast-at Inv-loop μ-loop
 cast-at c = search needs
@@ -71,7 +72,7 @@ mul-own : tie.Need-mul-own Inv-loop μ-loop
 mul-own c = search needs
 
 slice-read-own : tie.Need-slice-read-own Inv-loop μ-loop
-slice-read-own c = omega (arith, c .before .before .before .before .loop .inv .2 .sized, c .before .before .before .before .before .before .pre .0 .rows .few)
+slice-read-own c = omega (arith, c .before .before .before .before .loop .inv .2 .rows .sized, c .before .before .before .before .before .before .pre .0 .rows .few)
 
 add-period : tie.Need-add-period Inv-loop μ-loop
 add-period c = search needs
@@ -80,7 +81,7 @@ mul-period : tie.Need-mul-period Inv-loop μ-loop
 mul-period c = search needs
 
 slice-read-period : tie.Need-slice-read-period Inv-loop μ-loop
-slice-read-period c = omega (arith, c .before .before .before .before .before .loop .inv .2 .sized, c .before .before .before .before .before .before .before .pre .0 .rows .few)
+slice-read-period c = omega (arith, c .before .before .before .before .before .loop .inv .2 .rows .sized, c .before .before .before .before .before .before .before .pre .0 .rows .few)
 
 add-ahead : tie.Need-add-ahead Inv-loop μ-loop
 add-ahead c = search needs
@@ -89,7 +90,7 @@ mul-ahead : tie.Need-mul-ahead Inv-loop μ-loop
 mul-ahead c = search needs
 
 slice-read-ahead : tie.Need-slice-read-ahead Inv-loop μ-loop
-slice-read-ahead c = omega (arith, c .before .before .before .before .before .before .loop .inv .2 .sized, c .before .before .before .before .before .before .before .before .pre .0 .rows .few)
+slice-read-ahead c = omega (arith, c .before .before .before .before .before .before .loop .inv .2 .rows .sized, c .before .before .before .before .before .before .before .before .pre .0 .rows .few)
 
 add-share : tie.Need-add-share Inv-loop μ-loop
 add-share c = search needs
@@ -98,7 +99,7 @@ mul-share : tie.Need-mul-share Inv-loop μ-loop
 mul-share c = search needs
 
 slice-read-share : tie.Need-slice-read-share Inv-loop μ-loop
-slice-read-share c = omega (arith, c .before .before .before .before .before .before .before .loop .inv .2 .sized, c .before .before .before .before .before .before .before .before .before .pre .0 .rows .few)
+slice-read-share c = omega (arith, c .before .before .before .before .before .before .before .loop .inv .2 .rows .sized, c .before .before .before .before .before .before .before .before .before .pre .0 .rows .few)
 
 add-rise : tie.Need-add-rise Inv-loop μ-loop
 add-rise c = search needs
@@ -107,16 +108,16 @@ mul-rise : tie.Need-mul-rise Inv-loop μ-loop
 mul-rise c = search needs
 
 slice-read-rise : tie.Need-slice-read-rise Inv-loop μ-loop
-slice-read-rise c = omega (arith, c .before .before .before .before .before .before .before .before .loop .inv .2 .sized, c .before .before .before .before .before .before .before .before .before .before .pre .0 .rows .few)
+slice-read-rise c = omega (arith, c .before .before .before .before .before .before .before .before .loop .inv .2 .rows .sized, c .before .before .before .before .before .before .before .before .before .before .pre .0 .rows .few)
 
 put-row-requires : tie.Need-put-row-requires Inv-loop μ-loop
-put-row-requires c κs = (c .before .before .before .before .before .before .before .before .before .loop .inv .2 .sized, omega (arith, c .before .before .before .before .before .before .before .before .before .loop .inv .1, c .before .before .before .before .before .before .before .before .before .before .before .pre .0 .rows .few))
+put-row-requires c κs = (c .before .before .before .before .before .before .before .before .before .loop .inv .2 .rows .sized, omega (arith, c .before .before .before .before .before .before .before .before .before .loop .inv .1, c .before .before .before .before .before .before .before .before .before .before .before .pre .0 .rows .few))
 
 add-left : tie.Need-add-left Inv-loop μ-loop
 add-left c = omega (arith, c .before .before .before .before .before .before .before .before .before .before .before .before .before .before .loop .inv .1, c .before .before .before .before .before .before .before .before .before .before .before .before .before .before .before .before .pre .0 .rows .few)
 
 add-settled : tie.Need-add-settled Inv-loop μ-loop
-add-settled c = omega (arith, c .before .before .before .before .before .before .before .before .before .before .before .before .before .before .loop .inv .3, kept (c .before .before .before .before .before .before .before .before .before .before .before .before .before) .small-share)
+add-settled c = omega (arith, c .before .before .before .before .before .before .before .before .before .before .before .before .before .before .loop .inv .2 .small, kept (c .before .before .before .before .before .before .before .before .before .before .before .before .before) .small-share)
 
 add-next : tie.Need-add-next Inv-loop μ-loop
 add-next c = search needs
@@ -133,38 +134,40 @@ unfolding termAt
 settles c whole d =
     let p = c .before .before .before .before .before in
     let row = kept (c .before .before) in
-    whole-share _ _ _ _ (p .args .x) (p .args .cap) d (omega (arith, row .some-cost, row .by-period)) (rw (← c .term-and-top .ensures .0) whole)
+    whole-share _ _ _ _ (p .args .x) (p .args .cap) d (omega (arith, row .sizes .some-cost, row .sizes .by-period)) (rw (← c .term-and-top .ensures .0) whole)
 
 loop-again : tie.Need-loop-again Inv-loop μ-loop
 loop-again c =
     let q = c .before .before .before .before .before .before .before .before .before .before .before .before .before .before .loop in
     let put = c .before .before .before .before .put-row .ensures in
     let place : q .left < 64 = omega (arith, q .inv .1, c .before .before .before .before .before .before .before .before .before .before .before .before .before .before .before .before .pre .0 .rows .few) in
-    let row = kept (c .before .before .before .before .before .before .before .before .before .before .before .before .before) in (
+    let rows = q .inv .2 .rows in
+    let row = kept (c .before .before .before .before .before .before .before .before .before .before .before .before .before) in
+    let one-more : 64 - (c .before .before .before .before .before .before .before .before .before .before .before .before .before .before .before .before .args .rows .left - (q .next + 1)) ≡ 64 - (c .before .before .before .before .before .before .before .before .before .before .before .before .before .before .before .before .args .rows .left - q .next) + 1 = omega (arith, c .before .before .before .before .before .before .before .before .before .before .before .before .before .before .before .before .pre .0 .rows .few) in (
       omega arith,
       ⊎-elim (λ w. omega (arith, w .2, q .inv .1)) (λ w. omega (arith, w .2, q .inv .1)) (c .if1 .came),
-      ⊎-elim (λ w. rw (w .2, put) (rows-more (q .others) (q .left) _ _ _ _ _ (q .inv .2) place row))
-          (λ w. rw (w .2, put) (rows-same (q .others) (q .left) _ _ _ _ _ (q .inv .2) place)) (c .if1 .came),
-      ⊎-elim (λ w. omega (arith, w .1, w .2, q .inv .3)) (λ w. omega (arith, w .1, w .2, q .inv .3, row .small-share)) (c .if1 .came),
+      rw one-more
+          (⊎-elim (λ w. rw (w .1, w .2, put) (kept-more (q .others) (q .left) _ _ _ _ _ rows place _ (q .settled) (q .inv .2) row))
+          (λ w. rw (w .1, w .2, put) (kept-settled (q .others) (q .left) _ _ _ _ _ rows place _ (q .settled) (q .inv .2) (row .small-share))) (c .if1 .came)),
       λ j from below.
           rw put
-          (holds-through _ (q .others) j _ _ _ _ _ (put-other (q .others) (q .left) _ _ _ _ _ j below place (λ here. omega (arith, q .inv .1))) (q .inv .4 j (omega arith) below)),
+          (holds-through _ (q .others) j _ _ _ _ _ (put-other (q .others) (q .left) _ _ _ _ _ j below place (λ here. omega (arith, q .inv .1))) (q .inv .3 j (omega arith) below)),
       λ d.
-          ⊎-elim (λ w. rw (w .1, w .2, put) (sum-more (q .others) (q .left) _ _ _ _ _ (q .inv .2) place (q .settled) _ _ ∙ passed (c .before .before .before .before .before .before .before .before .before .before .before .before .before) d))
+          ⊎-elim (λ w. rw (w .1, w .2, put) (sum-more (q .others) (q .left) _ _ _ _ _ rows place (q .settled) _ _ ∙ passed (c .before .before .before .before .before .before .before .before .before .before .before .before .before) d))
           (λ w. rw (w .1, w .2, put)
-          (sum-settled (q .others) (q .left) _ _ _ _ _ (q .inv .2) place (q .settled) _ _ (settles (c .before .before .before .before .before .before .before .before .before .before .before) (w .0 .left) d) ∙ passed (c .before .before .before .before .before .before .before .before .before .before .before .before .before) d))
+          (sum-settled (q .others) (q .left) _ _ _ _ _ rows place (q .settled) _ _ (settles (c .before .before .before .before .before .before .before .before .before .before .before) (w .0 .left) d) ∙ passed (c .before .before .before .before .before .before .before .before .before .before .before .before .before) d))
           (c .if1 .came),
     )
 
 same-length : tie.Need-same-length Inv-loop μ-loop
-same-length c = c .before .loop .inv .2 .sized ∙ sym (c .before .before .before .pre .0 .rows .sized)
+same-length c = c .before .loop .inv .2 .rows .sized ∙ sym (c .before .before .before .pre .0 .rows .sized)
 
 returns : tie.Need-returns Inv-loop μ-loop
 returns c =
     let p = c .before .before .before in
     let q = c .before .loop in
     let done : q .next ≡ p .args .rows .left = omega arith in
-    ((record { rows = q .inv .2; small = omega (arith, q .inv .3) }, omega (arith, q .inv .1)), λ d. rw (← done) (q .inv .5 d))
+    ((record { rows = q .inv .2 .rows; small = omega (arith, q .inv .2 .small) }, omega (arith, q .inv .1)), λ d. rw (← done) (q .inv .4 d))
 
 pub keep-pending-spec : {M : Type 1} → statement M
 keep-pending-spec =

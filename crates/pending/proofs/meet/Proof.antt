@@ -9,14 +9,14 @@ use denote.Ref.{now}
 use Rattle.laws.specs.Sum.{total}
 use Rattle.laws.proofs.Sum.{total-step}
 use Rattle.model.specs.Sheet.{triples}
-use Rattle.model.specs.Interference.{share, work, workOf}
 use Rattle.rows.specs.Words.{rowCount, sheetOf}
 use Rattle.rows.proofs.Words.{deadline-word}
 use Rattle.rows.proofs.Checks.{sound-row}
-use Rattle.refinement.specs.Kept.{termFrom, KeptNumbers, KeptRows, keptSum, metTerm}
+use Rattle.refinement.specs.Inner.{termOf, shareIn}
+use Rattle.refinement.specs.Kept.{termFrom, KeptNumbers, KeptOf, keptSum}
 use Rattle.refinement.proofs.Limits.{share-within}
 use Rattle.refinement.proofs.Sizes.{sizes}
-use Rattle.refinement.proofs.Kept.{rows-same, rows-more, sum-more, sum-settled, small-share}
+use Rattle.refinement.proofs.Kept.{kept-more, kept-settled, sum-more, sum-settled, small-share, term-numbers}
 use Rattle.pending.proofs.meet.Statement.{statement}
 use Rattle.pending.proofs.meet.Tie as tie
 
@@ -24,19 +24,18 @@ abbrev Inv-loop : tie.InvT-loop
 Inv-loop words bounds from to window others₀ settled₀ left₀ place₀ others settled left place =
     (from ≤ place)
     × (place ≤ to)
-    × KeptRows others left
-    × (settled + left * 1_000_000 ≤ place * 1_000_000)
+    × KeptOf place others left settled
     × ((x cap : ℕ)
     → 1 ≤ x
     → 1 ≤ cap
-    → keptSum others left settled x cap + total (metTerm (sheetOf words) bounds window x cap) from
-    ≡ keptSum others₀ left₀ settled₀ x cap + total (metTerm (sheetOf words) bounds window x cap) place)
+    → keptSum others left settled x cap + total (termOf (sheetOf words) bounds (shareIn (sheetOf words) bounds window) x cap) from
+    ≡ keptSum others₀ left₀ settled₀ x cap + total (termOf (sheetOf words) bounds (shareIn (sheetOf words) bounds window) x cap) place)
 
 abbrev μ-loop : tie.MeasureT-loop
 μ-loop words bounds from to window others₀ settled₀ left₀ place₀ others settled left place = to - place
 
 loop-holds : tie.Need-loop-holds Inv-loop μ-loop
-loop-holds c = (omega arith, c .before .before .before .pre .1, c .before .before .before .pre .4, c .before .before .before .pre .5, λ x cap window some-cap. refl)
+loop-holds c = let p = c .before .before .before in (omega arith, p .pre .1, p .pre .4, λ x cap window some-cap. refl)
 
 -- The place is a row's.
 inside : (c : tie.In-loop Inv-loop μ-loop) → c .before .loop .place < rowCount (now (c .before .before .before .before .before .args .words))
@@ -103,13 +102,11 @@ numbers c =
     let i = c .before .before .before .before .before .before .before .loop .place in
     let words = now (p .args .words) in
     let known = sizes _ _ (p .pre .0) i (inside (c .before .before .before .before .before .before)) in
+    let ahead : getD words (3 * i) 0 + (getD (now (p .args .bounds)) i 0 - getD words (3 * i) 0) ≡ getD (now (p .args .bounds)) i 0 = omega (arith, known .from-cost) in
     let small : c .before .share-in-window .result ≤ 1_000_000 =
     omega (arith, c .before .share-in-window .ensures, share-within (getD words (3 * i) 0) (getD words (3 * i + 1) 0) (getD words (3 * i + 2) 0) (getD (now (p .args .bounds)) i 0) (p .args .window) (known .by-period), p .pre .3) in
     record {
-      some-cost = known .some-cost;
-      by-period = known .by-period;
-      small-period = known .small;
-      small-ahead = omega (arith, known .by-limit);
+      sizes = rw ahead known;
       small-share = small;
       small-rise = omega (arith, c .rise-of .ensures .1, known .by-period, known .small);
       comes = c .rise-of .ensures .0;
@@ -120,9 +117,9 @@ gathered : (c : tie.After-rise-of Inv-loop μ-loop) (x cap : ℕ) → 1 ≤ x �
     let q = c .before .before .before .before .before .before .before .loop in
     let words = now (p .args .words) in
     let own = getD words (3 * q .place) 0 in
-    keptSum (q .others) (q .left) (q .settled) x cap + termFrom own (getD words (3 * q .place + 2) 0) (getD (now (p .args .bounds)) (q .place) 0 - own) (c .before .share-in-window .result) x cap + total (metTerm (sheetOf words) (now (p .args .bounds)) (p .args .window) x cap) (p .args .from)
-    ≡ keptSum (now (p .args .others)) (p .args .before .left) (p .args .before .settled) x cap + total (metTerm (sheetOf words) (now (p .args .bounds)) (p .args .window) x cap) (q .place + 1)
-unfolding metTerm workOf work sheetOf triples
+    keptSum (q .others) (q .left) (q .settled) x cap + termFrom own (getD words (3 * q .place + 2) 0) (getD (now (p .args .bounds)) (q .place) 0 - own) (c .before .share-in-window .result) x cap + total (termOf (sheetOf words) (now (p .args .bounds)) (shareIn (sheetOf words) (now (p .args .bounds)) (p .args .window)) x cap) (p .args .from)
+    ≡ keptSum (now (p .args .others)) (p .args .before .left) (p .args .before .settled) x cap + total (termOf (sheetOf words) (now (p .args .bounds)) (shareIn (sheetOf words) (now (p .args .bounds)) (p .args .window)) x cap) (q .place + 1)
+unfolding shareIn sheetOf triples
 gathered c x cap window some-cap =
     let p = c .before .before .before .before .before .before .before .before .before .before .before in
     let q = c .before .before .before .before .before .before .before .loop in
@@ -130,19 +127,19 @@ gathered c x cap window some-cap =
     let own = getD words (3 * q .place) 0 in
     let bound = getD (now (p .args .bounds)) (q .place) 0 in
     let known = sizes _ _ (p .pre .0) (q .place) (inside (c .before .before .before .before .before .before)) in
-    let time : x + (bound - own) ≡ x + bound - own = omega (arith, known .from-cost) in
-    let term : termFrom own (getD words (3 * q .place + 2) 0) (bound - own) (c .before .share-in-window .result) x cap ≡ metTerm (sheetOf words) (now (p .args .bounds)) (p .args .window) x cap (q .place) =
-    rw (time, c .before .share-in-window .ensures) in
-    omega (arith, q .inv .4 x cap window some-cap, total-step (metTerm (sheetOf words) (now (p .args .bounds)) (p .args .window) x cap) (q .place), term)
+    let adds = termOf (sheetOf words) (now (p .args .bounds)) (shareIn (sheetOf words) (now (p .args .bounds)) (p .args .window)) x cap in
+    let term : termFrom own (getD words (3 * q .place + 2) 0) (bound - own) (c .before .share-in-window .result) x cap ≡ adds (q .place) =
+    rw (c .before .share-in-window .ensures) (term-numbers (sheetOf words) (now (p .args .bounds)) (shareIn (sheetOf words) (now (p .args .bounds)) (p .args .window)) x cap (q .place) (known .from-cost)) in
+    omega (arith, q .inv .3 x cap window some-cap, total-step adds (q .place), term)
 
 put-row-requires : tie.Need-put-row-requires Inv-loop μ-loop
-put-row-requires c κs = (c .before .before .before .before .before .before .before .before .loop .inv .2 .sized, omega (arith, c .before .before .before .before .before .before .before .before .loop .inv .3, inside (c .before .before .before .before .before .before .before), c .before .before .before .before .before .before .before .before .before .before .before .before .pre .0 .rows .at-most))
+put-row-requires c κs = (c .before .before .before .before .before .before .before .before .loop .inv .2 .rows .sized, omega (arith, c .before .before .before .before .before .before .before .before .loop .inv .2 .small, inside (c .before .before .before .before .before .before .before), c .before .before .before .before .before .before .before .before .before .before .before .before .pre .0 .rows .at-most))
 
 add-left : tie.Need-add-left Inv-loop μ-loop
-add-left c = omega (arith, c .before .before .before .before .before .before .before .before .before .before .before .before .loop .inv .2 .few)
+add-left c = omega (arith, c .before .before .before .before .before .before .before .before .before .before .before .before .loop .inv .2 .rows .few)
 
 add-settled : tie.Need-add-settled Inv-loop μ-loop
-add-settled c = omega (arith, c .before .before .before .before .before .before .before .before .before .before .before .before .loop .inv .3, inside (c .before .before .before .before .before .before .before .before .before .before .before), c .before .before .before .before .before .before .before .before .before .before .before .before .before .before .before .before .pre .0 .rows .at-most, c .if1 .left)
+add-settled c = omega (arith, c .before .before .before .before .before .before .before .before .before .before .before .before .loop .inv .2 .small, inside (c .before .before .before .before .before .before .before .before .before .before .before), c .before .before .before .before .before .before .before .before .before .before .before .before .before .before .before .before .pre .0 .rows .at-most, c .if1 .left)
 
 add-place : tie.Need-add-place Inv-loop μ-loop
 add-place c = search needs
@@ -155,35 +152,35 @@ loop-again c =
     let p = c .before .before .before .before .before .before .before .before .before .before .before .before .before .before .before .before in
     let q = c .before .before .before .before .before .before .before .before .before .before .before .before .loop in
     let put = c .before .before .before .put-row .ensures in
-    let place : q .left < 64 = omega (arith, q .inv .3, inside (c .before .before .before .before .before .before .before .before .before .before .before), p .pre .0 .rows .at-most) in
+    let place : q .left < 64 = omega (arith, q .inv .2 .small, inside (c .before .before .before .before .before .before .before .before .before .before .before), p .pre .0 .rows .at-most) in
     let words = now (p .args .words) in
     let own = getD words (3 * q .place) 0 in
     let period = getD words (3 * q .place + 2) 0 in
     let ahead = getD (now (p .args .bounds)) (q .place) 0 - own in
     let taken = c .before .before .before .before .before .before .share-in-window .result in
     let rise = c .before .before .before .before .before .rise-of .result in
+    let rows = q .inv .2 .rows in
     let row = numbers (c .before .before .before .before .before) in (
       omega (arith, q .inv .0),
       omega arith,
-      ⊎-elim (λ w. rw (w .2, put) (rows-more (q .others) (q .left) own period ahead taken rise (q .inv .2) place row))
-          (λ w. rw (w .2, put) (rows-same (q .others) (q .left) own period ahead taken rise (q .inv .2) place)) (c .if1 .came),
-      ⊎-elim (λ w. omega (arith, w .1, w .2, q .inv .3)) (λ w. omega (arith, w .0 .left, w .1, w .2, q .inv .3)) (c .if1 .came),
+      ⊎-elim (λ w. rw (w .1, w .2, put) (kept-more (q .others) (q .left) own period ahead taken rise rows place (q .place) (q .settled) (q .inv .2) row))
+          (λ w. rw (w .1, w .2, put) (kept-settled (q .others) (q .left) own period ahead taken rise rows place (q .place) (q .settled) (q .inv .2) (row .small-share))) (c .if1 .came),
       λ x cap window some-cap.
-          ⊎-elim (λ w. rw (w .1, w .2, put) (omega (arith, sum-more (q .others) (q .left) own period ahead taken rise (q .inv .2) place (q .settled) x cap, gathered (c .before .before .before .before .before) x cap window some-cap)))
+          ⊎-elim (λ w. rw (w .1, w .2, put) (omega (arith, sum-more (q .others) (q .left) own period ahead taken rise rows place (q .settled) x cap, gathered (c .before .before .before .before .before) x cap window some-cap)))
           (λ w. rw (w .1, w .2, put)
-          (omega (arith, sum-settled (q .others) (q .left) own period ahead taken rise (q .inv .2) place (q .settled) x cap (small-share own period ahead taken x cap (row .some-cost) window some-cap (omega (arith, w .0 .left))), gathered (c .before .before .before .before .before) x cap window some-cap)))
+          (omega (arith, sum-settled (q .others) (q .left) own period ahead taken rise rows place (q .settled) x cap (small-share own period ahead taken x cap (row .sizes .some-cost) window some-cap (omega (arith, w .0 .left))), gathered (c .before .before .before .before .before) x cap window some-cap)))
           (c .if1 .came),
     )
 
 same-length : tie.Need-same-length Inv-loop μ-loop
-same-length c = c .before .loop .inv .2 .sized ∙ sym (c .before .before .before .before .before .pre .4 .sized)
+same-length c = c .before .loop .inv .2 .rows .sized ∙ sym (c .before .before .before .before .before .pre .4 .rows .sized)
 
 returns : tie.Need-returns Inv-loop μ-loop
 returns c =
     let p = c .before .before .before .before .before in
     let q = c .before .loop in
     let done : q .place ≡ p .args .to = omega (arith, q .inv .1) in
-    (q .inv .2, (omega (arith, q .inv .3), λ x cap window some-cap. rw (← done) (q .inv .4 x cap window some-cap)))
+    (rw (← done) (q .inv .2), λ x cap window some-cap. rw (← done) (q .inv .3 x cap window some-cap))
 
 pub meet-spec : {M : Type 1} → statement M
 meet-spec =

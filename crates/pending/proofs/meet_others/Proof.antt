@@ -18,8 +18,7 @@ meet-requires c κs =
       omega arith,
       omega (arith, p .pre .1),
       omega (arith, p .pre .3),
-      record { sized = p .pre .4; few = omega arith; each = λ j h. absurd (omega arith) },
-      omega arith,
+      record { rows = record { sized = p .pre .4; few = omega arith; each = λ j h. absurd (omega arith) }; small = omega arith },
     )
 
 add-meet : tie.Need-add-meet
@@ -28,17 +27,17 @@ add-meet c = omega (arith, c .before .before .before .before .before .before .be
 meet-requires-2 : tie.Need-meet-requires-2
 meet-requires-2 c κs =
     let p = c .before .before .before .before .before .before .before .before in
+    let ahead = c .before .before .before .meet .ensures .0 in
     let sized = sound-row (now (p .args .words)) (p .pre .0 .rows) (p .args .row) (p .pre .1) in (
       p .pre .0,
       omega (arith, p .pre .1, p .pre .2),
       omega (arith, p .pre .2),
       omega (arith, p .pre .3),
-      c .before .before .before .meet .ensures .0,
-      omega (arith, c .before .before .before .meet .ensures .1 .0),
+      record { rows = ahead .rows; small = omega (arith, ahead .small) },
     )
 
 same-length : tie.Need-same-length
-same-length c = c .before .before .meet2 .ensures .0 .sized ∙ sym (c .before .before .before .before .before .before .before .before .before .before .before .pre .4)
+same-length c = c .before .before .meet2 .ensures .0 .rows .sized ∙ sym (c .before .before .before .before .before .before .before .before .before .before .before .pre .4)
 
 returns : tie.Need-returns
 unfolding total
@@ -50,11 +49,11 @@ returns c =
     let first = c .before .before .before .before .before .before .meet .ensures in
     let second = c .before .before .meet2 .ensures in
     record {
-      fewer = omega (arith, second .1 .0, p .pre .2, sheet-rows words);
-      kept = record { rows = second .0; small = omega (arith, second .1 .0, p .pre .2, p .pre .0 .rows .at-most) };
+      fewer = omega (arith, second .0 .small, p .pre .2, sheet-rows words);
+      kept = record { rows = second .0 .rows; small = omega (arith, second .0 .small, p .pre .2, p .pre .0 .rows .at-most) };
       same = λ z from.
           met-all s (now (p .args .bounds)) (p .args .row) (p .args .window) (p .args .count) z _ _ (omega (arith, p .pre .1, p .pre .2)) (p .pre .2 ∙ sym (sheet-rows words)) (p .pre .3)
-          (first .1 .1 z _ (omega (arith, sized .positive)) (omega arith)) (second .1 .1 z _ (omega (arith, sized .positive)) (omega arith));
+          (first .1 z _ (omega (arith, sized .positive)) (omega arith)) (second .1 z _ (omega (arith, sized .positive)) (omega arith));
     }
 
 pub meet-others-spec : {M : Type 1} → statement M

@@ -34,7 +34,7 @@ shared-slice-read-time : tie.Need-shared-slice-read-time
 shared-slice-read-time c = search needs
 
 add-time-2 : tie.Need-add-time-2
-add-time-2 c = let p = c .before .before .before .before in let row = p .pre .2 in omega (arith, row .small-ahead, p .pre .3)
+add-time-2 c = let p = c .before .before .before .before in let row = p .pre .2 in omega (arith, row .sizes .by-limit, p .pre .3)
 
 add-share : tie.Need-add-share
 add-share c = search needs
@@ -46,7 +46,7 @@ shared-slice-read-share : tie.Need-shared-slice-read-share
 shared-slice-read-share c = search needs
 
 work-in-time-requires : tie.Need-work-in-time-requires
-work-in-time-requires c κs = let p = c .before .before .before .before .before in let row = p .pre .2 in omega (arith, row .some-cost, row .by-period, row .small-period, row .small-ahead, p .pre .3)
+work-in-time-requires c κs = let p = c .before .before .before .before .before in let row = p .pre .2 in omega (arith, row .sizes .some-cost, row .sizes .by-period, row .sizes .small, row .sizes .by-limit, p .pre .3)
 
 lesser-requires : tie.Need-lesser-requires
 lesser-requires c κs = search needs
@@ -55,7 +55,7 @@ lesser-requires-2 : tie.Need-lesser-requires-2
 lesser-requires-2 c κs = search needs
 
 div-whole : tie.Need-div-whole
-div-whole c = let p = c .before .before .before .before .before .before .before .before in let row = p .pre .2 in omega (arith, row .some-cost, row .by-period)
+div-whole c = let p = c .before .before .before .before .before .before .before .before in let row = p .pre .2 in omega (arith, row .sizes .some-cost, row .sizes .by-period)
 
 -- The costs of the whole periods are within two millions.
 whole-small : (s : tie.Start) → let l = now (s .args .others) in
@@ -63,7 +63,7 @@ whole-small : (s : tie.Start) → let l = now (s .args .others) in
 whole-small s =
     let l = now (s .args .others) in
     let row = s .pre .2 in
-    omega (arith, s .pre .3, row .small-ahead, periods-within (s .args .x + aheadAt l (s .args .place)) (periodAt l (s .args .place)) (costAt l (s .args .place)) (row .by-period))
+    omega (arith, s .pre .3, row .sizes .by-limit, periods-within (s .args .x + aheadAt l (s .args .place)) (periodAt l (s .args .place)) (costAt l (s .args .place)) (row .sizes .by-period))
 
 mul-whole : tie.Need-mul-whole
 mul-whole c = omega (arith, whole-small (c .before .before .before .before .before .before .before .before))

@@ -8,7 +8,7 @@ use lib.ListN.{length, getD, drop, length-set}
 use denote.Ref.{now}
 use Rattle.laws.specs.Fill.{listed}
 use Rattle.laws.proofs.Fill.{listed-none, listed-more, listed-all, listed-next}
-use Rattle.model.specs.Ray.{along}
+use Rattle.model.specs.Inner.{along}
 use Rattle.ray.proofs.step_down.Statement.{statement}
 use Rattle.ray.proofs.step_down.Tie as tie
 

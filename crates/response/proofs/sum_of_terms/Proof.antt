@@ -6,7 +6,7 @@ use denote.Ref.{now}
 use Rattle.laws.specs.Sum.{total}
 use Rattle.laws.proofs.Sum.{total-step}
 use Rattle.rows.specs.Words.{sheetOf}
-use Rattle.refinement.specs.Inner.{termOf}
+use Rattle.refinement.specs.Inner.{listedShare, termOf}
 use Rattle.refinement.proofs.Limits.{term-within-cap}
 use native.Mathlib.Omega.{arith}
 use Rattle.response.proofs.sum_of_terms.Statement.{statement}
@@ -14,7 +14,7 @@ use Rattle.response.proofs.sum_of_terms.Tie as tie
 
 abbrev Inv-loop : tie.InvT-loop
 Inv-loop words bounds taken count x cap sum₀ other₀ sum other =
-    (other ≤ count) × (sum ≡ total (termOf (sheetOf words) bounds taken x cap) other) × (sum ≤ other * 1_000_000)
+    (other ≤ count) × (sum ≡ total (termOf (sheetOf words) bounds (listedShare taken) x cap) other) × (sum ≤ other * 1_000_000)
 
 abbrev μ-loop : tie.MeasureT-loop
 μ-loop words bounds taken count x cap sum₀ other₀ sum other = count - other
@@ -48,7 +48,7 @@ loop-again c =
     let p = c .before .before .before .before .before .before in
     let q = c .before .before .loop in (
       omega arith,
-      omega (arith, c .term .ensures, total-step (termOf (sheetOf (now (p .args .words))) (now (p .args .bounds)) (now (p .args .taken)) (p .args .x) (p .args .cap)) (q .other)),
+      omega (arith, c .term .ensures, total-step (termOf (sheetOf (now (p .args .words))) (now (p .args .bounds)) (listedShare (now (p .args .taken))) (p .args .x) (p .args .cap)) (q .other)),
       omega (arith, p .pre .5, capped c),
     )
 

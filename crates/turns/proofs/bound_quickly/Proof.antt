@@ -2,7 +2,7 @@
 use borrow.Author.Needs.{needs}
 use mathlib.Core.Path.{refl, _∙_, ap}
 use Rattle.rows.specs.declared.Found.{Found}
-use Rattle.refinement.specs.Inner.{boundOr}
+use Rattle.rows.specs.Words.{boundOr}
 use Rattle.refinement.proofs.ByMethod.{by-bcl, by-rta}
 use Rattle.turns.proofs.bound_quickly.Statement.{statement}
 use Rattle.turns.proofs.bound_quickly.Tie as tie

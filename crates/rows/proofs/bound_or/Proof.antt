@@ -1,8 +1,8 @@
 -- `bound_or` goes by the cases of the answer.
 use borrow.Author.Needs.{needs}
-use Rattle.refinement.specs.Inner.{boundOr}
-use Rattle.response.proofs.bound_or.Statement.{statement}
-use Rattle.response.proofs.bound_or.Tie as tie
+use Rattle.rows.specs.Words.{boundOr}
+use Rattle.rows.proofs.bound_or.Statement.{statement}
+use Rattle.rows.proofs.bound_or.Tie as tie
 
 enum-known-found : tie.Need-enum-known-found
 enum-known-found c = search needs

@@ -1,8 +1,8 @@
 -- `found_of` goes by the cases of the number.
-use Rattle.refinement.specs.Inner.{foundFrom}
-use Rattle.refinement.proofs.ByMethod.{found-positive}
-use Rattle.response.proofs.found_of.Statement.{statement}
-use Rattle.response.proofs.found_of.Tie as tie
+use Rattle.rows.specs.Words.{foundFrom}
+use Rattle.rows.proofs.Words.{found-positive}
+use Rattle.rows.proofs.found_of.Statement.{statement}
+use Rattle.rows.proofs.found_of.Tie as tie
 
 returns : tie.Need-returns
 unfolding foundFrom
