@@ -47,6 +47,11 @@ runs =
       second-round = refl;
       third-round = refl;
       rounds-end = refl;
+      first-sweep = refl;
+      round-short-first = refl;
+      sweep-short-first = refl;
+      round-long-first = refl;
+      sweep-long-first = refl;
       at-once-end = refl;
       all-marked = refl;
       single-at-4 = refl;
@@ -61,7 +66,7 @@ own-turns (suc zero) h = refl
 own-turns (suc (suc k)) h = absurd (omega arith)
 
 pub telling : Telling
-unfolding total unless least listed same bits triples share carried work shareOf workOf others rtaTerm rtaRight rtaAnswer answer deadlines turn round sweep until passes rounds atOnce marked marks
+unfolding total unless least listed same bits triples share carried work shareOf workOf others bclTerm bclValue rtaTerm rtaRight bclAnswer rtaAnswer answer deadlines turn round sweep until passes rounds atOnce marked marks
 telling =
     record {
       with-work = (refl, refl);
@@ -69,5 +74,6 @@ telling =
       one-sweep = refl;
       more-sweeps = (refl, refl);
       smaller-set = record { one-each = refl; by-turn = own-turns };
+      bcl-floor = refl;
       largest-set = (refl, refl);
     }

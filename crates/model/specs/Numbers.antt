@@ -61,12 +61,26 @@ single = triples 1 (5 ∷ 5 ∷ 10 ∷ [])
 abbrev pub askS : Ask
 askS = answer RTA caseS 2
 
+-- (1,3,3),(1,6,6), and the same rows the other way round.
+abbrev pub shortFirst : Sheet
+shortFirst = triples 2 (1 ∷ 3 ∷ 3 ∷ 1 ∷ 6 ∷ 6 ∷ [])
+
+abbrev pub longFirst : Sheet
+longFirst = triples 2 (1 ∷ 6 ∷ 6 ∷ 1 ∷ 3 ∷ 3 ∷ [])
+
 pub record Runs : Type 0 where
   -- Rounds on S give 4,4,6, then 4,4,5, then no change.
   pub first-round : round caseS askS (5 ∷ 5 ∷ 6 ∷ []) ≡ 4 ∷ 4 ∷ 6 ∷ []
   pub second-round : round caseS askS (4 ∷ 4 ∷ 6 ∷ []) ≡ 4 ∷ 4 ∷ 5 ∷ []
   pub third-round : round caseS askS (4 ∷ 4 ∷ 5 ∷ []) ≡ 4 ∷ 4 ∷ 5 ∷ []
   pub rounds-end : rounds caseS askS ≡ 4 ∷ 4 ∷ 5 ∷ []
+  -- One sweep gives 4,4,5 at once, since it uses each new bound immediately, where one round gives 4,4,6.
+  pub first-sweep : sweep caseS askS 3 (5 ∷ 5 ∷ 6 ∷ []) ≡ 4 ∷ 4 ∷ 5 ∷ []
+  -- RTA on one processor, from the deadlines: whichever of two rows comes first, a sweep lowers the other further than a round does.
+  pub round-short-first : round shortFirst (answer RTA shortFirst 1) (3 ∷ 6 ∷ []) ≡ 2 ∷ 3 ∷ []
+  pub sweep-short-first : sweep shortFirst (answer RTA shortFirst 1) 2 (3 ∷ 6 ∷ []) ≡ 2 ∷ 2 ∷ []
+  pub round-long-first : round longFirst (answer RTA longFirst 1) (6 ∷ 3 ∷ []) ≡ 3 ∷ 2 ∷ []
+  pub sweep-long-first : sweep longFirst (answer RTA longFirst 1) 2 (6 ∷ 3 ∷ []) ≡ 3 ∷ 1 ∷ []
   -- The at-once engine ends at 4,4,5, and every row is marked.
   pub at-once-end : atOnce caseS askS ≡ 4 ∷ 4 ∷ 5 ∷ []
   pub all-marked : marks caseS askS (4 ∷ 4 ∷ 5 ∷ []) ≡ 7
@@ -86,11 +100,16 @@ needsSweeps = triples 2 (1 ∷ 2 ∷ 2 ∷ 1 ∷ 5 ∷ 5 ∷ [])
 abbrev pub needsDeadlines : Sheet
 needsDeadlines = triples 2 (1 ∷ 2 ∷ 2 ∷ 1 ∷ 4 ∷ 4 ∷ [])
 
--- Three sheets, RTA on one processor, each with its end by both engines.
+-- Two rows (1,3,3): a ceiling in BCL answers 2 on two processors.
+abbrev pub needsFloor : Sheet
+needsFloor = triples 2 (1 ∷ 3 ∷ 3 ∷ 1 ∷ 3 ∷ 3 ∷ [])
+
+-- Three sheets, RTA on one processor, each with its end by both engines; and one by BCL on two.
 pub record Telling : Type 0 where
   pub with-work : (rounds needsWork (answer RTA needsWork 1) ≡ 1 ∷ 2 ∷ []) × (atOnce needsWork (answer RTA needsWork 1) ≡ 1 ∷ 2 ∷ [])
   pub both-marked : marks needsWork (answer RTA needsWork 1) (1 ∷ 2 ∷ []) ≡ 3
   pub one-sweep : sweep needsSweeps (answer RTA needsSweeps 1) 2 (2 ∷ 5 ∷ []) ≡ 2 ∷ 3 ∷ []
   pub more-sweeps : (rounds needsSweeps (answer RTA needsSweeps 1) ≡ 1 ∷ 2 ∷ []) × (atOnce needsSweeps (answer RTA needsSweeps 1) ≡ 1 ∷ 2 ∷ [])
   pub smaller-set : Consistent needsDeadlines (answer RTA needsDeadlines 1) (1 ∷ 2 ∷ [])
+  pub bcl-floor : answer BCL needsFloor 2 0 (3 ∷ 3 ∷ []) ≡ some 1
   pub largest-set : (rounds needsDeadlines (answer RTA needsDeadlines 1) ≡ 2 ∷ 3 ∷ []) × (atOnce needsDeadlines (answer RTA needsDeadlines 1) ≡ 2 ∷ 3 ∷ [])
