@@ -2,7 +2,7 @@
 use ray::hasten;
 use ray::note_drops;
 use rows::deadline;
-use turns::Outcome;
+use turns::Tally;
 use turns::fill_turns;
 use turns::sweep_rows;
 ghost use mathlib.Core.Path.{_≡_};
@@ -11,9 +11,10 @@ ghost use lib.ListN.{length};
 ghost use Rattle.model.specs.Refine.{deadlines, round, sweep, rounds, atOnce, marks};
 ghost use Rattle.model.specs.Inner.{Held};
 ghost use Rattle.rows.specs.Words.{rowCount, sheetOf};
-ghost use Rattle.rows.specs.Inner.{SoundRows};
+ghost use Rattle.rows.specs.Checks.{SoundRows};
 ghost use Rattle.refinement.specs.Refinement.{askOf};
-ghost use Rattle.refinement.specs.Inner.{Ready, AfterPass, Copied};
+ghost use Rattle.refinement.specs.Question.{Ready};
+ghost use Rattle.refinement.specs.Inner.{AfterPass, Copied};
 
 // Copies new bounds over the old ones, and tells whether any differs.
 pub fn copy_back(next: &[u32], bounds: &mut [u32], count: u32) -> bool
@@ -53,14 +54,14 @@ pub fn round_rows(
     processors: u32,
     method: u32,
     count: u32,
-) -> Outcome
+) -> Tally
     requires { ⌜ Ready (now words) (now bounds) × (count ≡ rowCount (now words)) × (1 ≤ processors) × Held (sheetOf (now words)) (askOf (now words) processors method) (now bounds) × (length (now next) ≡ count) ⌝ }
     ensures told { λ r. ⌜ AfterPass (sheetOf (now (words .entry))) (askOf (now (words .entry)) processors method) (round (sheetOf (now (words .entry))) (askOf (now (words .entry)) processors method)) (now (bounds .entry)) (now (bounds .exit)) (r .moved) (r .seen) ⌝ }
     ensures kept { λ r. ⌜ length (now (next .exit)) ≡ count ⌝ }
 {
     let seen = fill_turns(words, bounds, processors, method, count, next);
     let moved = copy_back(next, bounds, count);
-    Outcome {
+    Tally {
         moved: moved,
         seen: seen,
     }

@@ -19,10 +19,12 @@ use Rattle.grammar.specs.declared.Read.{Read}
 use Rattle.grammar.specs.declared.Written.{Written}
 use Rattle.grammar.specs.Grammar.{sheetLength, processorsWritten, rowsWritten, firstWrong}
 use Rattle.grammar.specs.Lines.{sheetBytes, wordsWritten}
-use Rattle.grammar.specs.Meaning.{Formed, Breaks}
+use Rattle.grammar.specs.Meaning.{Breaks, Readable, Writable}
 use Rattle.grammar.specs.Sheets.{betweenRefusal, formedRefusal, formRefusal, readRefusal, readRefused, readAnswer, readSheet, wordsAfter, writeRefusal, writeAnswer, writeSheet, bytesAfter}
 use Rattle.grammar.proofs.Meaning.{form-means, form-fixed}
-use Rattle.grammar.proofs.Refusals.{Passed, passed, passes, read-refused, read-accepted, write-accepted, form-wrong, form-right}
+use Rattle.grammar.proofs.Refusals.{passed, passes, read-refused, read-accepted, write-accepted, form-wrong, form-right}
+use mathlib.Core.Logic.{_↔_}
+use Rattle.laws.proofs.Choice.{number-kept}
 
 -- A row outside the sizes allowed is no refusal 1.
 rows-not-one : (row : Option ℕ) → (rowsRefusal row) .number ≡ 1 → ⊥
@@ -30,29 +32,17 @@ unfolding rowsRefusal
 rows-not-one none one = omega arith
 rows-not-one (some row) one = omega arith
 
--- An answer that carries the refusal's number, 0 where there is none, carries it either way.
-number-kept : {A : Type 0} (carried : A → ℕ) (number : ℕ) (refused worked : A) → carried refused ≡ number → carried worked ≡ 0
-    → carried (unlessRefused number refused worked) ≡ number
-unfolding unlessRefused
-number-kept {A} carried number refused worked carries zero = split (eqb number 0) refl
-  where
-    split : (b : Bool) → eqb number 0 ≡ b → carried (pick b worked refused) ≡ number
-    split true is-zero = zero ∙ sym (eqb-true number 0 is-zero)
-    split false not-zero = carries
-
 pub read-number : (bytes : List ℕ) (room : ℕ) → (readSheet bytes room) .refusal ≡ (readRefusal bytes room) .number
 unfolding readSheet readAnswer
 read-number bytes room = number-kept {A = Read} (λ r. r .refusal) ((readRefusal bytes room) .number) _ _ refl refl
 
-pub write-number : (words : List ℕ) (processors room : ℕ) → (writeSheet words processors room) .refusal ≡ (writeRefusal words processors room) .number
-unfolding writeSheet writeAnswer
-write-number words processors room =
-    number-kept {A = Written} (λ r. r .refusal) ((writeRefusal words processors room) .number) _ _ refl refl
+pub written-number : (refusal : Refusal) (size : ℕ) → (writeAnswer refusal size) .refusal ≡ refusal .number
+unfolding writeAnswer
+written-number refusal size = number-kept {A = Written} (λ r. r .refusal) (refusal .number) _ _ refl refl
 
--- What is asked of a sheet that is read: the form, sound rows, allowed processors, and room for three words a row.
-pub record Readable (bytes : List ℕ) (room : ℕ) : Type 0 where
-  pub formed : Formed bytes
-  pub passed : Passed (wordsWritten bytes) (processorsWritten bytes) room (3 * rowsWritten bytes)
+pub write-number : (words : List ℕ) (processors room : ℕ) → (writeSheet words processors room) .refusal ≡ (writeRefusal words processors room) .number
+unfolding writeSheet
+write-number words processors room = written-number (writeRefusal words processors room) (sheetLength (rowCount words))
 
 -- A reading that is not refused found all of it; and where all of it holds there is no refusal.
 formed-only : (later : Refusal) (r : Option ℕ) → (formRefusal r later) .number ≡ 0 → (r ≡ none) × (later .number ≡ 0)
@@ -75,6 +65,11 @@ readable bytes room facts =
     form-right bytes room (form-fixed bytes none (facts .formed))
     ∙ passes (wordsWritten bytes) (processorsWritten bytes) room (3 * rowsWritten bytes) (facts .passed)
 
+-- So a reading is not refused exactly where all of it holds.
+pub read-not-refused : (bytes : List ℕ) (room : ℕ) → ((readSheet bytes room) .refusal ≡ 0) ↔ Readable bytes room
+read-not-refused bytes room =
+    (read-found bytes room, λ facts. read-number bytes room ∙ ap (λ (f : Refusal). f .number) (readable bytes room facts))
+
 -- What a readable sheet returns and leaves in the lent words.
 pub read-answers : (bytes : List ℕ) (room : ℕ) → Readable bytes room
     → readSheet bytes room ≡ record { refusal = 0; place = 0; processors = processorsWritten bytes; rows = rowsWritten bytes }
@@ -89,10 +84,6 @@ read-leaves bytes words facts =
     (front-put ((readRefusal bytes (length words)) .number) (wordsWritten bytes) words
     (ap (λ (f : Refusal). f .number) (readable bytes (length words) facts)))
 
--- The same of writing: sound rows, allowed processors, and room for the sheet.
-abbrev pub Writable : List ℕ → ℕ → ℕ → Type 0
-Writable words processors room = Passed words processors room (sheetLength (rowCount words))
-
 pub write-found : (words : List ℕ) (processors room : ℕ) → (writeSheet words processors room) .refusal ≡ 0 → Writable words processors room
 unfolding writeRefusal
 write-found words processors room none-holds =
@@ -101,6 +92,10 @@ write-found words processors room none-holds =
 writable : (words : List ℕ) (processors room : ℕ) → Writable words processors room → writeRefusal words processors room ≡ notRefused
 unfolding writeRefusal
 writable words processors room facts = passes words processors room (sheetLength (rowCount words)) facts
+
+pub write-not-refused : (words : List ℕ) (processors room : ℕ) → ((writeSheet words processors room) .refusal ≡ 0) ↔ Writable words processors room
+write-not-refused words processors room =
+    (write-found words processors room, λ facts. write-number words processors room ∙ ap (λ (f : Refusal). f .number) (writable words processors room facts))
 
 pub write-answers : (words : List ℕ) (processors room : ℕ) → Writable words processors room
     → writeSheet words processors room ≡ record { refusal = 0; place = 0; length = sheetLength (rowCount words) }

@@ -13,23 +13,17 @@ use Rattle.laws.specs.Fill.{atFront}
 use Rattle.model.specs.Sheet.{processorsAllowed}
 use Rattle.rows.specs.declared.Refusal.{Refusal}
 use Rattle.rows.specs.Words.{rowCount}
-use Rattle.rows.specs.Checks.{refused, notRefused, tooMany, processorsRefusal, roomRefusal, firstOf, wordsRefusal}
-use Rattle.rows.specs.Inner.{SoundRows}
+use Rattle.rows.specs.Checks.{refused, notRefused, tooMany, processorsRefusal, roomRefusal, firstOf, wordsRefusal, SoundRows}
 use Rattle.rows.proofs.Checks.{whole-rows, accepted, sound-passes, first-of-zero, first-of-none, processors-allowed, allowed-processors, room-enough, enough-room}
 use Rattle.grammar.specs.declared.Read.{Read}
 use Rattle.grammar.specs.Grammar.{processorsWritten, rowsWritten, firstWrong}
 use Rattle.grammar.specs.Lines.{wordWritten, wordsWritten}
+use Rattle.grammar.specs.Meaning.{RowsFit}
 use Rattle.grammar.specs.Sheets.{betweenRefusal, formedRefusal, formRefusal, readRefusal, readRefused, readAnswer, writeAnswer}
-
--- What the checks after the form ask: sound rows, allowed processors, and room for the answer.
-pub record Passed (words : List ℕ) (processors room need : ℕ) : Type 0 where
-  pub sound : SoundRows words
-  pub allowed : processorsAllowed processors ≡ true
-  pub enough : need ≤ room
 
 -- With number 0 each of them passed; and where each passes there is no refusal.
 pub passed : (words : List ℕ) (processors room need : ℕ) → (wordsRefusal words (betweenRefusal processors room need)) .number ≡ 0
-    → Passed words processors room need
+    → RowsFit words processors room need
 unfolding betweenRefusal
 passed words processors room need none-holds =
     let facts = accepted words (firstOf (processorsRefusal processors) (roomRefusal room need)) none-holds in
@@ -40,7 +34,7 @@ passed words processors room need none-holds =
       enough = room-enough room need (both .1);
     }
 
-pub passes : (words : List ℕ) (processors room need : ℕ) → Passed words processors room need
+pub passes : (words : List ℕ) (processors room need : ℕ) → RowsFit words processors room need
     → wordsRefusal words (betweenRefusal processors room need) ≡ notRefused
 unfolding betweenRefusal
 passes words processors room need facts =
@@ -112,6 +106,6 @@ judged-words bytes written processors room between is-written is-line is-between
 
 -- A sheet that is not refused passed its checks.
 pub formed-passed : (bytes : List ℕ) (room : ℕ) → (formedRefusal bytes room) .number ≡ 0
-    → Passed (wordsWritten bytes) (processorsWritten bytes) room (3 * rowsWritten bytes)
+    → RowsFit (wordsWritten bytes) (processorsWritten bytes) room (3 * rowsWritten bytes)
 unfolding formedRefusal
 formed-passed bytes room none-holds = passed (wordsWritten bytes) (processorsWritten bytes) room (3 * rowsWritten bytes) none-holds

@@ -15,7 +15,8 @@ use Rattle.grammar.proofs.Lines.{sheet-bytes-length}
 use Rattle.grammar.proofs.Refusals.{words-length, words-rows}
 use Rattle.grammar.proofs.ReadBack.{sheet-back}
 use Rattle.grammar.proofs.WriteBack.{processors-same, rows-same, words-same, sound-formed}
-use Rattle.grammar.proofs.Entries.{Readable, Writable, read-found, read-answers, read-leaves, write-found, write-answers, write-leaves}
+use Rattle.grammar.specs.Meaning.{Readable, Writable}
+use Rattle.grammar.proofs.Entries.{read-found, read-answers, read-leaves, write-found, write-answers, write-leaves}
 
 -- A sheet that is not refused, read into any words and written into any space that holds it, comes back byte for byte.
 pub read-then-written : (bytes words out : List ℕ) → (readSheet bytes (length words)) .refusal ≡ 0 → length bytes ≤ length out

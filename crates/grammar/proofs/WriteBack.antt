@@ -18,7 +18,7 @@ use Rattle.digits.specs.Digits.{digitByte, number, digits}
 use Rattle.digits.proofs.Digit.{byte-is-digit}
 use Rattle.digits.proofs.Number.{digits-length, number-of-digits}
 use Rattle.rows.specs.Words.{rowCount, sheetOf}
-use Rattle.rows.specs.Inner.{SoundRows}
+use Rattle.rows.specs.Checks.{SoundRows}
 use Rattle.rows.proofs.Words.{sheet-rows, cost-word, deadline-word, period-word}
 use Rattle.rows.proofs.Checks.{sound-row}
 use Rattle.grammar.specs.Grammar.{head, line, sheetLength, lineAllows, sheetAllows, processorsWritten, rowsWritten}

@@ -1,12 +1,16 @@
--- What refusal 1 and its place mean, in plain words.
+-- What refusal 1 and its place mean, in plain words, and what it takes not to be refused.
 use mathlib.Core.Path.{_≡_}
 use mathlib.Core.Bool.{true, false}
 use mathlib.Core.List.{List}
 use mathlib.Core.Logic.{_⊎_}
 use mathlib.Core.Option.{Option, none, some}
-use Prim.Native.Nat.{ℕ, suc, _≤_, _<_}
+use Prim.Native.Nat.{ℕ, suc, _*_, _≤_, _<_}
 use lib.ListN.{length, getD}
-use Rattle.grammar.specs.Grammar.{sheetLength, sheetAllows, rowsWritten}
+use Rattle.model.specs.Sheet.{processorsAllowed}
+use Rattle.rows.specs.Words.{rowCount}
+use Rattle.rows.specs.Checks.{SoundRows}
+use Rattle.grammar.specs.Grammar.{sheetLength, sheetAllows, processorsWritten, rowsWritten}
+use Rattle.grammar.specs.Lines.{wordsWritten}
 
 -- The bytes have the line form: they are as many as they announce, and each may stand where it stands.
 pub record Formed (bytes : List ℕ) : Type 0 where
@@ -50,3 +54,18 @@ pub record SheetWith (bytes : List ℕ) (place : ℕ) : Type 0 where
 pub record FarAs (bytes : List ℕ) (place : ℕ) : Type 0 where
   pub some-sheet : SheetWith bytes place
   pub no-sheet : place < length bytes → (sheet : List ℕ) → Formed sheet → place < length sheet → AlikeBelow bytes sheet (suc place) → ⊥
+
+-- What the checks after the form ask: sound rows, allowed processors, and room for the answer.
+pub record RowsFit (words : List ℕ) (processors room need : ℕ) : Type 0 where
+  pub sound : SoundRows words
+  pub allowed : processorsAllowed processors ≡ true
+  pub enough : need ≤ room
+
+-- What is asked of a sheet that is read: the form, sound rows, allowed processors, and room for three words a row.
+pub record Readable (bytes : List ℕ) (room : ℕ) : Type 0 where
+  pub formed : Formed bytes
+  pub passed : RowsFit (wordsWritten bytes) (processorsWritten bytes) room (3 * rowsWritten bytes)
+
+-- The same of writing: sound rows, allowed processors, and room for the sheet.
+abbrev pub Writable : List ℕ → ℕ → ℕ → Type 0
+Writable words processors room = RowsFit words processors room (sheetLength (rowCount words))

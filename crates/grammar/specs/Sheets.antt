@@ -54,9 +54,9 @@ writeRefusal words processors room = wordsRefusal words (betweenRefusal processo
 
 -- What writing returns: the number of bytes written, or the refusal and 0.
 unfoldable pub writeAnswer : Refusal → ℕ → Written
-writeAnswer refusal length =
+writeAnswer refusal size =
     unlessRefused (refusal .number) (record { refusal = refusal .number; place = refusal .place; length = 0 })
-    (record { refusal = 0; place = 0; length = length })
+    (record { refusal = 0; place = 0; length = size })
 
 -- Writing a sheet: what it returns, and what it leaves in the lent bytes.
 unfoldable pub writeSheet : List ℕ → ℕ → ℕ → Written

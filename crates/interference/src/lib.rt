@@ -8,7 +8,8 @@ ghost use Prim.Native.Nat.{_+_, _-_, _≤_, _<_};
 ghost use lib.ListN.{length};
 ghost use Rattle.model.specs.Interference.{share, carried, bclTerm};
 ghost use Rattle.rows.specs.Words.{rowCount, sheetOf};
-ghost use Rattle.refinement.specs.Inner.{Ready, WindowOf, shares};
+ghost use Rattle.refinement.specs.Question.{Ready};
+ghost use Rattle.refinement.specs.Inner.{WindowOf, shares};
 
 // The demand share of a row in a deadline window. Of the rest of the window behind whole periods it takes what lies between the slack and
 // the slack and the cost: a difference of two minima, in which nothing is to be guessed by the processor.

@@ -13,8 +13,9 @@ ghost use lib.ListN.{length, getD};
 ghost use Rattle.laws.specs.Sum.{total};
 ghost use Rattle.model.specs.Answer.{rtaAnswer};
 ghost use Rattle.rows.specs.Words.{rowCount, sheetOf, foundOf, boundOr};
-ghost use Rattle.refinement.specs.Inner.{Ready, Rooms, Jumped};
-ghost use Rattle.refinement.specs.Kept.{KeptRow, KeptRows, Kept, Tried, lineAt, keptSum, Passed};
+ghost use Rattle.refinement.specs.Question.{Ready};
+ghost use Rattle.refinement.specs.Inner.{Rooms, Jumped};
+ghost use Rattle.refinement.specs.Inner.Kept.{KeptRow, KeptRows, Kept, Tried, lineAt, keptSum, Excluded};
 
 // The rows kept and what is settled, with the X to go on from.
 pub struct Leap {
@@ -114,7 +115,7 @@ pub fn line_excludes(others: &[u32], rows: Pending, processors: u32, x: u32, cap
 // way down to 64, and the present one where none is found. That no farther one would do is not claimed.
 pub fn far_from(others: &[u32], rows: Pending, own: u32, top: u32, processors: u32, x: u32) -> u32
     requires { ⌜ Kept (now others) (rows .left) (rows .settled) × Tried own top x × (processors ≤ 64) ⌝ }
-    ensures { λ r. ⌜ (x ≤ r) × (r ≤ top) × Passed (now (others .entry)) (rows .left) (rows .settled) processors own x r ⌝ }
+    ensures { λ r. ⌜ (x ≤ r) × (r ≤ top) × Excluded (now (others .entry)) (rows .left) (rows .settled) processors own x r ⌝ }
 {
     let cap = x - own + 1;
     if !line_excludes(others, rows, processors, x, cap) {
@@ -143,7 +144,7 @@ pub fn leap_far(
     requires { ⌜ Kept (now others) (rows .left) (rows .settled) × Tried own top x × (processors ≤ 64) ⌝ }
     ensures kept { λ r. ⌜ Kept (now (others .exit)) (r .left) (r .settled) × ((r .left) ≤ (rows .left)) ⌝ }
     ensures sums { λ r. ⌜ ((d : ℕ) → keptSum (now (others .exit)) (r .left) (r .settled) (x + d) (x - own + 1 + d) ≡ keptSum (now (others .entry)) (rows .left) (rows .settled) (x + d) (x - own + 1 + d)) ⌝ }
-    ensures goes { λ r. ⌜ (x ≤ r .x) × ((r .x) ≤ top) × Passed (now (others .exit)) (r .left) (r .settled) processors own x (r .x) ⌝ }
+    ensures goes { λ r. ⌜ (x ≤ r .x) × ((r .x) ≤ top) × Excluded (now (others .exit)) (r .left) (r .settled) processors own x (r .x) ⌝ }
 {
     if step % 16 == 0 {
         let kept = keep_pending(others, rows, x, x - own + 1);
@@ -174,7 +175,7 @@ pub fn onward(
     room: &mut [u32],
 ) -> u32
     requires { ⌜ Kept (now others) (rows .left) (rows .settled) × Tried own top x × (1 ≤ processors) × (processors ≤ 64) × ((rows .left) ≤ length (now room)) ⌝ }
-    ensures goes { λ r. ⌜ (x ≤ r) × Passed (now (others .entry)) (rows .left) (rows .settled) processors own x r ⌝ }
+    ensures goes { λ r. ⌜ (x ≤ r) × Excluded (now (others .entry)) (rows .left) (rows .settled) processors own x r ⌝ }
     ensures stands { λ r. ⌜ (r ≡ x → keptSum (now (others .entry)) (rows .left) (rows .settled) x (x - own + 1) < processors * (x - own + 1)) ⌝ }
 {
     let cap = x - own + 1;

@@ -3,7 +3,7 @@ use mathlib.Core.Path.{_≡_, refl, sym, _∙_, ap, ap₂}
 use mathlib.Core.Bool.{Bool, true, false, _&&_}
 use mathlib.Core.Logic.{⊎-elim}
 use Prim.Native.Nat.{ℕ, zero, suc, _+_, _*_, _-_, _^_, _/_, _%_, _≤_, _<_}
-use native.Mathlib.Nat.{eq-or-lt-of-le, le-of-suc-le-suc, le-step, le-dest, lt-suc-self, two-pow-succ, pow-succ', div-eq-of-lt, lt-of-lt-of-le, add-mul-div-right, add-mul-mod-self-right, add-comm, mul-assoc}
+use native.Mathlib.Nat.{eq-or-lt-of-le, le-of-suc-le-suc, le-step, le-dest, lt-suc-self, two-pow-succ, pow-succ', div-eq-of-lt, lt-of-lt-of-le, add-mul-div-right, add-mul-mod-self-right, add-comm, mul-assoc, div-div-eq-div-mul, div-one}
 use native.Mathlib.Numerals.{add-one}
 use native.Mathlib.Omega.{arith}
 use lib.Arith.{digits-div}
@@ -128,3 +128,17 @@ pub full-every : (f : ℕ → Bool) (n : ℕ) → bits f n ≡ 2 ^ n - 1 → eve
 unfolding every
 full-every f zero full = refl
 full-every f (suc n) full = fuller f n (full-every f n) (f n) (rw bits-more at full)
+
+-- Bit k + 1 of a number is bit k of its half.
+bit-of-half : (a k : ℕ) → bitAt a (suc k) ≡ bitAt (a / 2) k
+bit-of-half a k = rw (pow-succ' 2 k) (ap (λ (x : ℕ). x % 2) (sym (div-div-eq-div-mul a 2 (2 ^ k))))
+
+-- A number of n bits is told by them.
+pub bits-tell : (n a b : ℕ) → a < 2 ^ n → b < 2 ^ n → ((k : ℕ) → k < n → bitAt a k ≡ bitAt b k) → a ≡ b
+bits-tell zero a b low below same = omega arith
+bits-tell (suc n) a b low below same =
+    let halves : a / 2 ≡ b / 2 =
+    bits-tell n (a / 2) (b / 2) (omega (arith, two-pow-succ n)) (omega (arith, two-pow-succ n))
+    (λ k h. sym (bit-of-half a k) ∙ same (suc k) (omega arith) ∙ bit-of-half b k) in
+    let last : a % 2 ≡ b % 2 = rw (div-one a, div-one b) at (same 0 (omega arith)) in
+    omega arith

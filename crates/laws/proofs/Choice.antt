@@ -5,8 +5,9 @@ use mathlib.Core.Option.{Option, none, some}
 use Prim.Native.Nat.{ℕ, _≤_}
 use native.Mathlib.Nat.{le-refl, le-trans}
 use native.Mathlib.Omega.{arith}
-use borrow.Author.Tests.{eq-eqb, ne-eqb}
+use borrow.Author.Tests.{eq-eqb, ne-eqb, eqb-true}
 use Rattle.laws.specs.Choice.{pick, unlessRefused, orElse, isSome, Better}
+use lib.Dec.{eqb}
 
 -- A test does not both pass and fail.
 pub never-both : {test : Bool} → test ≡ true → test ≡ false → ⊥
@@ -80,3 +81,13 @@ better-orElse none none other h within = le-refl other
 better-orElse none (some y) other h within = absurd h
 better-orElse (some x) none other h within = within x refl
 better-orElse (some x) (some y) other h within = h
+
+-- An answer that carries the refusal's number, 0 where there is none, carries it either way.
+pub number-kept : {A : Type 0} (carried : A → ℕ) (number : ℕ) (refused worked : A) → carried refused ≡ number → carried worked ≡ 0
+    → carried (unlessRefused number refused worked) ≡ number
+unfolding unlessRefused
+number-kept {A} carried number refused worked carries zero = split (eqb number 0) refl
+  where
+    split : (b : Bool) → eqb number 0 ≡ b → carried (pick b worked refused) ≡ number
+    split true is-zero = zero ∙ sym (eqb-true number 0 is-zero)
+    split false not-zero = carries

@@ -2,7 +2,7 @@
 use Prim.Native.Nat.{ℕ, _+_, _*_, _-_, _≤_, _<_, min}
 use native.Mathlib.Nat.{le-trans, mul-le-mul, le-refl, mul-add}
 use native.Mathlib.Omega.{arith}
-use Rattle.laws.specs.Line.{Under}
+use Rattle.laws.specs.Inner.{Under}
 
 -- Anything smaller lies under the same line.
 pub under-smaller : (f g : ℕ → ℕ) (value slope steps : ℕ) → ((t : ℕ) → t < steps → g t ≤ f t) → Under f value slope steps

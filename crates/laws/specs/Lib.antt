@@ -4,4 +4,4 @@ pub mod Search
 pub mod Climb
 pub mod Fill
 pub mod Bits
-pub mod Line
+pub mod Inner

@@ -4,7 +4,7 @@ use mathlib.Core.Path.{_≡_, sym, _∙_, ap}
 use Prim.Native.Nat.{ℕ, _+_, _*_, _-_, _/_, _%_, _≤_, _<_, min}
 use native.Mathlib.Nat.{le-trans, mul-add, mul-assoc, add-mul, add-mul-div-right, div-add-mod', div-eq-of-lt, mod-lt}
 use native.Mathlib.Omega.{arith}
-use Rattle.laws.specs.Line.{Under}
+use Rattle.laws.specs.Inner.{Under}
 use Rattle.model.specs.Interference.{share, carried}
 use Rattle.model.proofs.Interference.{carried-mono, share-mono}
 

@@ -12,8 +12,9 @@ ghost use lib.ListN.{length, drop};
 ghost use Rattle.laws.specs.Sum.{total};
 ghost use Rattle.laws.specs.Fill.{listed};
 ghost use Rattle.rows.specs.Words.{rowCount, sheetOf};
-ghost use Rattle.refinement.specs.Inner.{Ready, termOf, shareIn, reach};
-ghost use Rattle.refinement.specs.Kept.{KeptRow, KeptOf, Kept, putRow, termAt, topAt, roomAt, keptSum, Met};
+ghost use Rattle.refinement.specs.Question.{Ready};
+ghost use Rattle.refinement.specs.Inner.{termOf, shareIn, reach};
+ghost use Rattle.refinement.specs.Inner.Kept.{KeptRow, KeptOf, Kept, putRow, termAt, topAt, roomAt, keptSum, Met};
 
 // What other rows add at X, and what that comes to for certain, one a step each.
 pub struct Rise {

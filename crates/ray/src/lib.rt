@@ -10,9 +10,9 @@ ghost use Prim.Native.Nat.{ℕ, _+_, _*_, _-_, _≤_, _<_};
 ghost use lib.ListN.{length, getD};
 ghost use Rattle.model.specs.Inner.{along, Held};
 ghost use Rattle.rows.specs.Words.{rowCount, sheetOf};
-ghost use Rattle.refinement.specs.Inner.{Ready};
+ghost use Rattle.refinement.specs.Question.{Ready};
 ghost use Rattle.refinement.specs.Refinement.{askOf};
-ghost use Rattle.refinement.specs.Ray.{OnWay, Reaches, Small, Roomy, Lowered, Descended};
+ghost use Rattle.refinement.specs.Inner.Ray.{OnWay, Reaches, Small, Roomy, Lowered, Descended};
 
 // For how many steps a row's turn allows the next one: its sum stays below what it has left.
 pub fn row_reach(

@@ -10,7 +10,7 @@ use Rattle.rows.specs.declared.Found.{Found}
 use Rattle.rows.specs.Words.{rowCount, sheetOf, foundOf, boundOr, foundFrom}
 use Rattle.rows.proofs.Words.{found-back}
 use Rattle.rows.proofs.Checks.{sound-row}
-use Rattle.refinement.specs.Inner.{Ready}
+use Rattle.refinement.specs.Question.{Ready}
 
 module _ (s : Sheet) (m k : ℕ) (R : List ℕ) (method : ℕ) (found : Found) where
   pub by-bcl : method ≡ 0 → found ≡ foundOf (bclAnswer s m k R) → found ≡ foundOf (answer (methodOf method) s m k R)

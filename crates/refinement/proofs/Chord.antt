@@ -9,7 +9,7 @@ use Rattle.laws.specs.Sum.{total}
 use Rattle.laws.proofs.Sum.{total-mono, total-same}
 use Rattle.laws.proofs.Concave.{Concave, concave-same, concave-self, concave-add, concave-times, concave-min, concave-total, total-times, above-line}
 use Rattle.model.proofs.Rise.{slope-below}
-use Rattle.refinement.specs.Kept.{costAt, periodAt, aheadAt, shareAt, termAt, lineAt, KeptRows, keptSum, Passed}
+use Rattle.refinement.specs.Inner.Kept.{costAt, periodAt, aheadAt, shareAt, termAt, lineAt, KeptRows, keptSum, Excluded}
 
 -- No line is above the cap.
 pub line-within-cap : (l : List ℕ) (x cap j : ℕ) → lineAt l x cap j ≤ 4_294_967_296 * cap
@@ -58,7 +58,7 @@ module _ (l : List ℕ) (left : ℕ) (rows : KeptRows l left) where
   pub chord-passes : (settled m own x far : ℕ) → own ≤ x
       → 4_294_967_296 * (m * (x - own + 1)) ≤ 4_294_967_296 * settled + total (lineAt l x (x - own + 1)) left
       → 4_294_967_296 * (m * (x - own + 1 + far)) ≤ 4_294_967_296 * settled + total (lineAt l (x + far) (x - own + 1 + far)) left
-      → Passed l left settled m own x (x + far)
+      → Excluded l left settled m own x (x + far)
   unfolding laterOf
   chord-passes settled m own x far from start end z low high =
       let cap = x - own + 1 in

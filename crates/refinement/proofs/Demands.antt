@@ -1,21 +1,34 @@
 -- Demand 3 of the entries' answers, from what is proved of the definitions: no engine is unfolded.
-use mathlib.Core.Path.{_≡_, refl, sym, _∙_, ap}
+use mathlib.Core.Path.{_≡_, refl, sym, _∙_, ap, ap₂}
 use mathlib.Core.Bool.{Bool, true, false}
 use mathlib.Core.List.{List, _++_}
 use Prim.Native.Nat.{ℕ, _<_}
 use native.Mathlib.Omega.{arith}
-use lib.ListN.{length, getD, take, drop, List·getD-append}
+use lib.ListN.{length, getD, take, drop, List·getD-append, take-append-drop}
 use lib.Seq.{take-at, drop-at}
 use Rattle.laws.specs.Bits.{bit, bitAt}
 use Rattle.model.specs.Answer.{methodOf}
-use Rattle.model.specs.Refine.{rounds, atOnce, marked, marks, Largest}
-use Rattle.model.proofs.Engines.{marks-say, unmarked-deadline}
+use Rattle.model.specs.Refine.{rounds, atOnce, marked, marks, Largest, turn}
+use Rattle.model.proofs.Engines.{marks-say, unmarked-deadline, largest-unique}
 use Rattle.model.proofs.Methods.{engines-agree, rta-dominates}
-use Rattle.rows.specs.Words.{rowCount, sheetOf}
+use Rattle.rows.specs.Words.{rowCount, sheetOf, foundOf}
 use Rattle.rows.proofs.Words.{sheet-rows}
 use Rattle.refinement.specs.declared.Refined.{Refined}
-use Rattle.refinement.specs.Refinement.{askOf, refineRefusal, finalBounds, refined, refinedWords, EntriesAgree, Settled, NoWorse}
-use Rattle.refinement.proofs.Refinement.{rounds-length, refine-answered}
+use Rattle.refinement.specs.Refinement.{askOf, refineRefusal, finalBounds, refined, refinedWords, EntriesAgree, Settled, NoWorse, Engine, AskedAgain, EndsAlike}
+use Rattle.refinement.proofs.Refinement.{rounds-length, refine-answered, refining, refined-number}
+use mathlib.Core.Option.{Option, none, some}
+use lib.Dec.{eqb}
+use Rattle.laws.specs.Choice.{pick, orElse, isSome}
+use Rattle.laws.proofs.Bits.{bits-tell}
+use Rattle.model.proofs.Refine.{turn-from-cost, turn-by-deadline}
+use Rattle.rows.specs.declared.Refusal.{Refusal}
+use Rattle.rows.specs.declared.Found.{Found}
+use Rattle.rows.specs.declared.Found.the-variants.{At, Nowhere}
+use Rattle.rows.proofs.Checks.{sound-row}
+use Rattle.refinement.specs.declared.OneRow.{OneRow}
+use Rattle.refinement.specs.Question.{oneRow, Ready, Askable}
+use Rattle.refinement.proofs.Question.{askable, one-row-answered}
+use Rattle.refinement.proofs.Steps.{ask-regular}
 
 -- Both engines give the same final bounds for any words.
 same-final : (words : List ℕ) (m method : ℕ) → finalBounds rounds words m method ≡ finalBounds atOnce words m method
@@ -35,9 +48,16 @@ final-largest words m method = engines-agree (methodOf method) (sheetOf words) m
 
 module _ (words : List ℕ) (m method : ℕ) (out : List ℕ) (passed : (refineRefusal words m method (length out)) .number ≡ 0) where
   -- What is answered and written where nothing is refused.
+  whole : _≡_ {A = Refined} (record { refusal = 0; place = 0; marks = marks (sheetOf words) (askOf words m method) (rounds (sheetOf words) (askOf words m method)) })
+      (refined rounds words m method (length out))
+  whole = refine-answered rounds words m method out passed _ (rowCount words) _ refl refl (rounds-length words m method) .0
+
   answered : _≡_ {A = ℕ} (marks (sheetOf words) (askOf words m method) (rounds (sheetOf words) (askOf words m method)))
       ((refined rounds words m method (length out)) .marks)
-  answered = ap (λ (r : Refined). r .marks) (refine-answered rounds words m method out passed _ (rowCount words) _ refl refl (rounds-length words m method) .0)
+  answered = ap (λ (r : Refined). r .marks) whole
+
+  rounds-number : _≡_ {A = ℕ} ((refined rounds words m method (length out)) .refusal) 0
+  rounds-number = ap (λ (r : Refined). r .refusal) (sym whole)
 
   written : rounds (sheetOf words) (askOf words m method) ++ drop (rowCount words) out ≡ refinedWords rounds words m method out
   written = refine-answered rounds words m method out passed _ (rowCount words) _ refl refl (rounds-length words m method) .1
@@ -61,15 +81,17 @@ module _ (words : List ℕ) (m method : ℕ) (out : List ℕ) (passed : (refineR
       ∙ marks-say (sheetOf words) (askOf words m method) (rounds (sheetOf words) (askOf words m method)) .each k (rw sheet-rows h)
 
   -- Demand 3 of the rounds entry.
-  pub rounds-settled : Settled words m method (refined rounds words m method (length out)) (refinedWords rounds words m method out) out
+  rounds-settled : Settled words m method (refined rounds words m method (length out)) (refinedWords rounds words m method out) out
   rounds-settled =
       let s = sheetOf words in
       let ask = askOf words m method in
       record {
+        number = rounds-number;
+        place = ap (λ (r : Refined). r .place) (sym whole);
         bounds = rw front (final-largest words m method);
         behind = ap (drop (rowCount words)) (sym written) ∙ drop-at (rounds s ask) (drop (rowCount words) out) (rowCount words) (rounds-length words m method);
         each-mark = λ k h. mark-at k h ∙ ap (λ (l : List ℕ). bit (marked ask l k)) (sym front);
-        no-more = λ k h. ap (λ (n : ℕ). bitAt n k) (sym answered) ∙ marks-say s ask (rounds s ask) .past k (rw sheet-rows h);
+        no-more = rw (← answered, ← sheet-rows words) (marks-say s ask (rounds s ask) .within);
         unmarked = λ k h zero.
             word-at k h
             ∙ unmarked-deadline s ask (rounds s ask) (final-largest words m method .consistent) k (rw sheet-rows h)
@@ -80,28 +102,118 @@ module _ (words : List ℕ) (m method : ℕ) (out : List ℕ) (passed : (refineR
       not-set true zero = absurd (omega arith)
       not-set false zero = refl
 
-  -- And of the at-once entry, which answers and writes the same.
-  pub at-once-settled : Settled words m method (refined atOnce words m method (length out)) (refinedWords atOnce words m method out) out
-  at-once-settled =
-      let agree = entries-agree words m method out in
-      rw (← agree .same-answer, ← agree .same-words) rounds-settled
+  -- Every final bound lies from its row's cost to its deadline.
+  final-ready : Ready words (rounds (sheetOf words) (askOf words m method))
+  final-ready =
+      let s = sheetOf words in
+      let ask = askOf words m method in
+      let rows = refining words m method (length out) passed .rows in
+      let consistent = final-largest words m method .consistent in
+      record {
+        rows = rows;
+        one-each = rounds-length words m method;
+        in-range = λ k h.
+            let sized = sound-row words rows k (rw (← sheet-rows words) h) in
+            rw (consistent .by-turn k h) (
+              omega (arith, sized .by-deadline, turn-from-cost s ask (ask-regular words m method) k (rounds s ask)),
+              turn-by-deadline s ask (ask-regular words m method) k (rounds s ask),
+            );
+      }
 
--- RTA against BCL, of the entries' answers: no word above, and no mark lost.
-pub rta-no-worse : (words : List ℕ) (m : ℕ) (out : List ℕ) → (refineRefusal words m 0 (length out)) .number ≡ 0
-    → (refineRefusal words m 1 (length out)) .number ≡ 0
-    → NoWorse words (refined rounds words m 1 (length out)) (refined rounds words m 0 (length out))
-    (refinedWords rounds words m 1 out) (refinedWords rounds words m 0 out)
+  -- The answer under the final bounds, by whether there is one.
+  told-again : (o : Option ℕ) (deadline bound : ℕ) → bound ≡ orElse o deadline → foundOf o ≡ pick (eqb (bit (isSome o)) 1) (At bound) Nowhere
+  unfolding foundOf
+  told-again none deadline bound is-bound = refl
+  told-again (some x) deadline bound is-bound = ap At (sym is-bound)
+
+  -- The one-row entry, asked with the words handed out.
+  rounds-asked-again : AskedAgain words m method (refined rounds words m method (length out)) (refinedWords rounds words m method out)
+  unfolding askOf marked turn
+  rounds-asked-again k h =
+      let s = sheetOf words in
+      let ask = askOf words m method in
+      let facts = refining words m method (length out) passed in
+      let asks : Askable words m method (rounds s ask) k =
+      record { ready = final-ready; there = h; some-processor = facts .some-processor; few = facts .few; by-method = facts .by-method } in
+      let zero = ap (λ (r : Refusal). r .number) (askable words m method (rounds s ask) k asks) in
+      let bound : getD (refinedWords rounds words m method out) k 0 ≡ turn s ask k (rounds s ask) =
+      word-at k h ∙ final-largest words m method .consistent .by-turn k (rw sheet-rows h) in
+      let told = told-again (ask k (rounds s ask)) (s .deadline k) (getD (refinedWords rounds words m method out) k 0) bound in
+      rw (front, mark-at k h) (one-row-answered words m method (rounds s ask) k zero ∙ ap (λ (f : Found). let r : OneRow = record { refusal = 0; place = 0; answer = f } in r) told)
+
+-- What is settled fixes answer and words: the largest consistent set is one, and a number is told by its bits.
+pub settled-fixed : (words : List ℕ) (m method : ℕ) (first second : Refined) (after other out : List ℕ) → Settled words m method first after out
+    → Settled words m method second other out → (first ≡ second) × (after ≡ other)
+settled-fixed words m method first second after other out one two =
+    let n = rowCount words in
+    let ask = askOf words m method in
+    let front = largest-unique (sheetOf words) ask (take n after) (take n other) (one .bounds) (two .bounds) in
+    let same : after ≡ other =
+    sym (take-append-drop n after) ∙ ap₂ (λ (a b : List ℕ). a ++ b) front (one .behind ∙ sym (two .behind)) ∙ take-append-drop n other in
+    let marks-same = bits-tell n (first .marks) (second .marks) (one .no-more) (two .no-more)
+    (λ k h. one .each-mark k h ∙ ap (λ (l : List ℕ). bit (marked ask l k)) front ∙ sym (two .each-mark k h)) in
+    (same-refined first second (one .number ∙ sym (two .number)) (one .place ∙ sym (two .place)) marks-same, same)
+  where
+    same-refined : (a b : Refined) → a .refusal ≡ b .refusal → a .place ≡ b .place → a .marks ≡ b .marks → a ≡ b
+    same-refined a b number place marks = λ i. record { refusal = number i; place = place i; marks = marks i }
+
+-- Both engines end alike, and an engine that does answers and writes what the rounds engine does.
+pub rounds-alike : EndsAlike rounds
+rounds-alike words m method = refl
+
+pub at-once-alike : EndsAlike atOnce
+at-once-alike words m method = sym (same-final words m method)
+
+module _ (engine : Engine) (alike : EndsAlike engine) (words : List ℕ) (m method : ℕ) (out : List ℕ) where
+  alike-answer : refined engine words m method (length out) ≡ refined rounds words m method (length out)
+  unfolding refined
+  alike-answer = rw (alike words m method)
+
+  alike-words : refinedWords engine words m method out ≡ refinedWords rounds words m method out
+  unfolding refinedWords
+  alike-words = rw (alike words m method)
+
+  -- Demand 3 of either entry, where it is not refused.
+  pub entry-settled : (refined engine words m method (length out)) .refusal ≡ 0
+      → Settled words m method (refined engine words m method (length out)) (refinedWords engine words m method out) out
+  entry-settled zero =
+      rw (alike-answer, alike-words) (rounds-settled words m method out (sym (refined-number engine words m method out) ∙ zero))
+
+  pub entry-asked-again : (refined engine words m method (length out)) .refusal ≡ 0
+      → AskedAgain words m method (refined engine words m method (length out)) (refinedWords engine words m method out)
+  entry-asked-again zero =
+      rw (alike-answer, alike-words) (rounds-asked-again words m method out (sym (refined-number engine words m method out) ∙ zero))
+
+-- RTA against BCL, of the rounds entry's answers: no word above, and no mark lost.
+rounds-no-worse : (words : List ℕ) (m : ℕ) (out other : List ℕ) → (refineRefusal words m 1 (length out)) .number ≡ 0
+    → (refineRefusal words m 0 (length other)) .number ≡ 0
+    → NoWorse words (refined rounds words m 1 (length out)) (refined rounds words m 0 (length other))
+    (refinedWords rounds words m 1 out) (refinedWords rounds words m 0 other)
 unfolding askOf methodOf
-rta-no-worse words m out bcl-passed rta-passed =
+rounds-no-worse words m out other rta-passed bcl-passed =
     let s = sheetOf words in
     let dominates = rta-dominates s m in
     record {
-      bounds = λ k h. rw (word-at words m 1 out rta-passed k h, word-at words m 0 out bcl-passed k h) (dominates .bounds k (rw sheet-rows h));
+      bounds = λ k h. rw (word-at words m 1 out rta-passed k h, word-at words m 0 other bcl-passed k h) (dominates .bounds k (rw sheet-rows h));
       keeps-marks = λ k h set-it-is.
           mark-at words m 1 out rta-passed k h
-          ∙ ap bit (dominates .keeps-marks k (is-set _ (sym (mark-at words m 0 out bcl-passed k h) ∙ set-it-is)));
+          ∙ ap bit (dominates .keeps-marks k (is-set _ (sym (mark-at words m 0 other bcl-passed k h) ∙ set-it-is)));
     }
   where
     is-set : (b : Bool) → bit b ≡ 1 → b ≡ true
     is-set true one = refl
     is-set false one = absurd (omega arith)
+
+-- And of any two entries, whatever words they were lent.
+pub rta-no-worse : (engine second : Engine) → EndsAlike engine → EndsAlike second → (words : List ℕ) (m : ℕ) (out other : List ℕ)
+    → (refined engine words m 1 (length out)) .refusal ≡ 0 → (refined second words m 0 (length other)) .refusal ≡ 0
+    → NoWorse words (refined engine words m 1 (length out)) (refined second words m 0 (length other))
+    (refinedWords engine words m 1 out) (refinedWords second words m 0 other)
+rta-no-worse engine second alike alike-too words m out other rta-zero bcl-zero =
+    rw (
+      alike-answer engine alike words m 1 out,
+      alike-words engine alike words m 1 out,
+      alike-answer second alike-too words m 0 other,
+      alike-words second alike-too words m 0 other,
+    )
+    (rounds-no-worse words m out other (sym (refined-number engine words m 1 out) ∙ rta-zero) (sym (refined-number second words m 0 other) ∙ bcl-zero))

@@ -19,8 +19,8 @@ use Rattle.model.proofs.Refine.{Regular}
 use Rattle.model.proofs.Ray.{next-step, within, within-gone, within-left, stage-at, along-none, along-lower, OnRay, ray-bound, ray-on, ray-skip, ray-ahead}
 use Rattle.rows.specs.Words.{rowCount, sheetOf}
 use Rattle.rows.proofs.Words.{sheet-rows}
-use Rattle.refinement.specs.Ray.{OnWay, Reaches, Small, Roomy, Lowered, Descended}
-use Rattle.refinement.specs.Inner.{Ready}
+use Rattle.refinement.specs.Inner.Ray.{OnWay, Reaches, Small, Roomy, Lowered, Descended}
+use Rattle.refinement.specs.Question.{Ready}
 use Rattle.rows.proofs.Checks.{sound-row}
 use Rattle.refinement.proofs.Limits.{bound-in-range}
 use Rattle.refinement.proofs.Steps.{ready-lower}

@@ -20,7 +20,7 @@ use Rattle.model.proofs.Interference.{rtaRight-rises}
 use Rattle.model.proofs.Rise.{carried-within, carried-rises, carried-full}
 use Rattle.refinement.specs.Inner.{reach, Rooms, Jumped}
 use Rattle.refinement.proofs.Limits.{not-passed}
-use Rattle.refinement.specs.Kept.{costAt, periodAt, aheadAt, shareAt, termFrom, termAt, topAt, roomAt, KeptRows, keptSum, Met, Passed}
+use Rattle.refinement.specs.Inner.Kept.{costAt, periodAt, aheadAt, shareAt, termFrom, termAt, topAt, roomAt, KeptRows, keptSum, Met, Excluded}
 
 -- What holds in both cases holds of what a term comes to for certain.
 pub by-period : (P : ℕ → Type 0) (c t whole share : ℕ) → (c ≡ t → P share) → P (min (whole + c) share) → P (reach c t whole share)
@@ -103,7 +103,7 @@ module _ (l : List ℕ) (left : ℕ) (rows : KeptRows l left) where
       → room ≡ listed (roomAt l x (x - own + 1)) left ++ drop left before
       → m * (x - own + 1) ≤ keptSum l left settled x (x - own + 1)
       → gain ≡ keptSum l left settled x (x - own + 1) - m * (x - own + 1)
-      → Jumped room left gain m most far → Passed l left settled m own x (x + far + 1)
+      → Jumped room left gain m most far → Excluded l left settled m own x (x + far + 1)
   jump-passes room before settled m own x gain most far from filled full is-gain jumped z low high =
       let cap = x - own + 1 in
       let d = z - x in
@@ -130,14 +130,14 @@ module _ (s : Sheet) (R l : List ℕ) (row left settled x m : ℕ) (met : Met s 
   right-stands own is-cost from short = rw (right-from x (le-refl x)) (not-passed m (s .cost row) x _ some-processor (omega arith) (rw is-cost at short))
 
   -- What is passed is below its value.
-  right-above : (next : ℕ) → s .cost row ≤ x → Passed l left settled m (s .cost row) x next → (z : ℕ) → x ≤ z → z < next → z < rtaRight s m row R z
+  right-above : (next : ℕ) → s .cost row ≤ x → Excluded l left settled m (s .cost row) x next → (z : ℕ) → x ≤ z → z < next → z < rtaRight s m row R z
   right-above next from passed z low high =
       let cap = z - s .cost row + 1 in
       let quotient : cap ≤ keptSum l left settled z cap / m = le-div-iff-mul-le some-processor .1 (rw (mul-comm cap m) (passed z low high)) in
       omega (arith, right-from z low)
 
   -- So a climb goes on over what is passed.
-  pub climb-on : (own next : ℕ) → own ≡ s .cost row → own ≤ x → x ≤ next → Passed l left settled m own x next
+  pub climb-on : (own next : ℕ) → own ≡ s .cost row → own ≤ x → x ≤ next → Excluded l left settled m own x next
       → Climbed (rtaRight s m row R) (s .cost row) x → Climbed (rtaRight s m row R) (s .cost row) next
   climb-on own next is-cost from further passed climbed =
       ⊎-elim (λ (same : x ≡ next). rw (← same) climbed)

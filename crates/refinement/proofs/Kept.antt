@@ -12,7 +12,7 @@ use Rattle.laws.proofs.Sum.{total-same, total-step, total-unless}
 use Rattle.model.specs.Sheet.{Sheet}
 use Rattle.model.specs.Interference.{shareOf, work, workOf, others, rtaTerm}
 use Rattle.refinement.specs.Inner.{termOf, shareIn}
-use Rattle.refinement.specs.Kept.{costAt, periodAt, aheadAt, shareAt, riseAt, putRow, termFrom, termAt, KeptNumbers, KeptRow, KeptRows, KeptOf, Kept, keptSum, Met}
+use Rattle.refinement.specs.Inner.Kept.{costAt, periodAt, aheadAt, shareAt, riseAt, putRow, termFrom, termAt, KeptNumbers, KeptRow, KeptRows, KeptOf, Kept, keptSum, Met}
 use Rattle.refinement.proofs.Limits.{carried-positive}
 use Rattle.refinement.proofs.Exclusion.{one-rises}
 

@@ -9,7 +9,8 @@ use Rattle.model.specs.Sheet.{Sheet}
 use Rattle.model.specs.Interference.{share, carried, work}
 use Rattle.rows.specs.Words.{rowCount, sheetOf}
 use Rattle.rows.proofs.Words.{sheet-rows}
-use Rattle.refinement.specs.Inner.{Ready, termOf}
+use Rattle.refinement.specs.Question.{Ready}
+use Rattle.refinement.specs.Inner.{termOf}
 
 -- The costs of the whole periods in a time are no more than the time.
 pub periods-within : (time period cost : ℕ) → cost ≤ period → time / period * cost ≤ time

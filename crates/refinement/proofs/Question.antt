@@ -7,36 +7,26 @@ use mathlib.Core.Option.{Option, none, some}
 use Prim.Native.Nat.{ℕ, _≤_, _<_}
 use native.Mathlib.Decide.{ℕ-discrete}
 use native.Mathlib.Omega.{arith}
-use borrow.Author.Tests.{ltb-true, ltb-false, leb-true, eqb-true}
+use borrow.Author.Tests.{ltb-true, ltb-false, leb-true, eqb-true, lt-ltb, eq-eqb, le-leb}
 use lib.Dec.{leb, ltb, eqb}
 use lib.ListN.{length, getD}
 use Rattle.laws.specs.Choice.{pick}
 use Rattle.laws.specs.Bits.{every}
-use Rattle.laws.proofs.Choice.{not-refused, is-refused, and-left, and-right, one-answer}
-use Rattle.laws.proofs.Bits.{every-each}
+use Rattle.laws.proofs.Choice.{not-refused, is-refused, and-left, and-right, one-answer, and-both, pick-yes, number-kept}
+use Rattle.laws.proofs.Bits.{every-each, each-every}
 use Rattle.model.specs.Answer.{methodOf, answer}
-use Rattle.model.proofs.Sheet.{allowed-processors}
+use Rattle.model.proofs.Sheet.{allowed-processors, processors-allowed}
 use Rattle.model.proofs.Answer.{answer-means, answer-fixed}
 use Rattle.rows.specs.declared.Found.{Found}
 use Rattle.rows.specs.declared.Found.the-variants.{At, Nowhere}
 use Rattle.rows.specs.declared.Refusal.{Refusal}
 use Rattle.rows.specs.Words.{rowCount, sheetOf, foundOf}
-use Rattle.rows.specs.Checks.{refused, notRefused, processorsRefusal, methodRefusal, firstOf, wordsRefusal}
-use Rattle.rows.specs.Inner.{SoundRows}
+use Rattle.rows.specs.Checks.{refused, notRefused, processorsRefusal, methodRefusal, firstOf, wordsRefusal, SoundRows}
 use Rattle.rows.proofs.Words.{sheet-rows}
 use Rattle.rows.proofs.Checks as checks
 use Rattle.refinement.specs.declared.OneRow.{OneRow}
-use Rattle.refinement.specs.Question.{boundAllowed, questionAllowed, questionRefusal, oneRowRefusal, oneRow, answerOf, OneRowPromise}
-use Rattle.refinement.specs.Inner.{Ready}
-
--- A method that is not refused is 0 or 1.
-pub method-within : (method : ℕ) → methodRefusal method ≡ 0 → method ≤ 1
-unfolding methodRefusal
-method-within method zero = split (ltb 1 method) refl zero
-  where
-    split : (b : Bool) → ltb 1 method ≡ b → _≡_ {A = ℕ} (pick b 5 0) 0 → method ≤ 1
-    split true above zero = absurd (omega arith)
-    split false within zero = ltb-false 1 method within
+use Rattle.refinement.specs.Question.{boundAllowed, questionAllowed, questionRefusal, oneRowRefusal, oneRow, answerOf, OneRowPromise, Ready, Askable}
+use mathlib.Core.Logic.{_↔_}
 
 -- A question that is allowed, on sound words: the bounds are ready and the row is there.
 pub question-ready : (words R : List ℕ) (row : ℕ) → SoundRows words → questionAllowed (sheetOf words) R row ≡ true
@@ -59,6 +49,17 @@ question-ready words R row sound allowed =
       },
       rw sheet-rows at there,
     )
+
+-- And ready bounds with a row that is there are allowed.
+pub ready-question : (words R : List ℕ) (row : ℕ) → Ready words R → row < rowCount words → questionAllowed (sheetOf words) R row ≡ true
+unfolding questionAllowed boundAllowed
+ready-question words R row ready inside =
+    let s = sheetOf words in
+    and-both _ _ (lt-ltb row (s .rows) (rw sheet-rows inside))
+    (and-both _ _ (eq-eqb (length R) (s .rows) (ready .one-each ∙ sym (sheet-rows words)))
+    (each-every (boundAllowed s R) (s .rows)
+    (λ i h.
+    and-both _ _ (le-leb (s .cost i) (getD R i 0) (ready .in-range i h .0)) (le-leb (getD R i 0) (s .deadline i) (ready .in-range i h .1)))))
 
 -- The first checks, as the code makes them.
 pub first-checks : (words : List ℕ) (m method p q b : ℕ) (first : Refusal) → p ≡ processorsRefusal m → q ≡ methodRefusal method
@@ -97,13 +98,7 @@ module _ (words : List ℕ) (m method : ℕ) (R : List ℕ) (row : ℕ) where
       rw (← is-allowed) (sym (not-refused _ _ _ (sym (ap (λ (r : Refusal). r .number) is-first) ∙ zero)))
 
   -- Number 0 gives every fact that the work needs.
-  pub record Asked : Type 0 where
-    pub ready : Ready words R
-    pub there : row < rowCount words
-    pub processors : 1 ≤ m
-    pub few : m ≤ 64
-
-  pub asked : (oneRowRefusal words m method R row) .number ≡ 0 → Asked
+  pub asked : (oneRowRefusal words m method R row) .number ≡ 0 → Askable words m method R row
   unfolding oneRowRefusal questionRefusal
   asked zero =
       let passed = checks.both-passed (wordsRefusal words (firstOf (processorsRefusal m) (methodRefusal method))) (questionRefusal (sheetOf words) R row) zero in
@@ -111,11 +106,32 @@ module _ (words : List ℕ) (m method : ℕ) (R : List ℕ) (row : ℕ) where
       let between = checks.first-of-zero (processorsRefusal m) (methodRefusal method) (facts .nothing-between) in
       let ready = question-ready words R row (facts .rows) (is-allowed (questionAllowed (sheetOf words) R row) (passed .1)) in
       let allowed = allowed-processors m (checks.processors-allowed m (between .0)) in
-      record { ready = ready .0; there = ready .1; processors = allowed .0; few = allowed .1 }
+      record { ready = ready .0; there = ready .1; some-processor = allowed .0; few = allowed .1; by-method = checks.method-within method (between .1) }
     where
       is-allowed : (b : Bool) → (pick b notRefused (refused 9 0)) .number ≡ 0 → b ≡ true
       is-allowed true zero = refl
       is-allowed false zero = absurd (omega arith)
+
+  -- And where they hold there is no refusal.
+  pub askable : Askable words m method R row → oneRowRefusal words m method R row ≡ notRefused
+  unfolding oneRowRefusal questionRefusal
+  askable facts =
+      let four = checks.allowed-processors m (processors-allowed m (facts .some-processor) (facts .few)) in
+      let five = checks.within-method method (facts .by-method) in
+      let first = checks.sound-passes words (firstOf (processorsRefusal m) (methodRefusal method))
+      (record { rows = facts .ready .rows; nothing-between = checks.first-of-none _ _ four five }) in
+      not-refused _ _ _ (ap (λ (r : Refusal). r .number) first) ∙ pick-yes _ _ _ (ready-question words R row (facts .ready) (facts .there))
+
+  -- The answer carries the refusal's number, and is not refused exactly where everything asked for holds.
+  pub one-row-number : (oneRow words m method R row) .refusal ≡ (oneRowRefusal words m method R row) .number
+  unfolding oneRow
+  one-row-number = number-kept {A = OneRow} (λ r. r .refusal) ((oneRowRefusal words m method R row) .number) _ _ refl refl
+
+  pub one-row-not-refused : ((oneRow words m method R row) .refusal ≡ 0) ↔ Askable words m method R row
+  one-row-not-refused = (
+    λ zero. asked (sym one-row-number ∙ zero),
+    λ facts. one-row-number ∙ ap (λ (r : Refusal). r .number) (askable facts),
+  )
 
   -- What the entry answers where nothing is refused, and where something is.
   pub one-row-answered : (oneRowRefusal words m method R row) .number ≡ 0

@@ -1,24 +1,24 @@
 -- The entries of both engines, once over any engine: what number 0 says, what is answered and written refused or not. Demand 3 is then read
 -- off the answers, from what is proved of the definitions.
-use mathlib.Core.Path.{_≡_, sym, _∙_, ap}
+use mathlib.Core.Path.{_≡_, sym, _∙_, ap, refl}
 use mathlib.Core.List.{List, _++_}
 use Prim.Native.Nat.{ℕ, _≤_}
 use lib.ListN.{length, drop}
-use Rattle.laws.proofs.Choice.{not-refused, is-refused, one-answer}
+use Rattle.laws.proofs.Choice.{not-refused, is-refused, one-answer, number-kept}
 use Rattle.laws.proofs.Fill.{listed-length, listed-at, front-left, front-put}
 use Rattle.model.specs.Refine.{deadlines, rounds, atOnce, marks}
 use Rattle.model.proofs.Engines.{rounds-largest, at-once-largest}
-use Rattle.model.proofs.Sheet.{allowed-processors}
+use Rattle.model.proofs.Sheet.{allowed-processors, processors-allowed}
 use Rattle.rows.specs.declared.Refusal.{Refusal}
 use Rattle.rows.specs.Words.{rowCount, sheetOf}
-use Rattle.rows.specs.Checks.{processorsRefusal, methodRefusal, roomRefusal, firstOf}
-use Rattle.rows.specs.Inner.{SoundRows}
+use Rattle.rows.specs.Checks.{processorsRefusal, methodRefusal, roomRefusal, firstOf, SoundRows, notRefused}
 use Rattle.rows.proofs.Words.{sheet-rows}
 use Rattle.rows.proofs.Checks as checks
 use Rattle.refinement.specs.declared.Refined.{Refined}
-use Rattle.refinement.specs.Refinement.{askOf, refineRefusal, Engine, finalBounds, refined, refinedWords}
-use Rattle.refinement.specs.Inner.{Ready}
+use Rattle.refinement.specs.Refinement.{askOf, refineRefusal, Engine, finalBounds, refined, refinedWords, Refinable}
+use Rattle.refinement.specs.Question.{Ready}
 use Rattle.refinement.proofs.Steps.{ask-regular}
+use mathlib.Core.Logic.{_↔_}
 
 -- The deadlines are ready bounds.
 pub deadlines-ready : (words : List ℕ) → SoundRows words → Ready words (deadlines (sheetOf words))
@@ -34,13 +34,7 @@ deadlines-ready words sound =
     }
 
 -- Number 0 gives every fact that the work needs.
-pub record Refining (words : List ℕ) (m room : ℕ) : Type 0 where
-  pub rows : SoundRows words
-  pub processors : 1 ≤ m
-  pub few : m ≤ 64
-  pub enough : rowCount words ≤ room
-
-pub refining : (words : List ℕ) (m method room : ℕ) → (refineRefusal words m method room) .number ≡ 0 → Refining words m room
+pub refining : (words : List ℕ) (m method room : ℕ) → (refineRefusal words m method room) .number ≡ 0 → Refinable words m method room
 unfolding refineRefusal
 refining words m method room zero =
     let facts = checks.accepted words (firstOf (processorsRefusal m) (firstOf (methodRefusal method) (roomRefusal room (rowCount words)))) zero in
@@ -48,10 +42,21 @@ refining words m method room zero =
     let five = checks.first-of-zero (methodRefusal method) (roomRefusal room (rowCount words)) (four .1) in
     record {
       rows = facts .rows;
-      processors = allowed-processors m (checks.processors-allowed m (four .0)) .0;
+      some-processor = allowed-processors m (checks.processors-allowed m (four .0)) .0;
       few = allowed-processors m (checks.processors-allowed m (four .0)) .1;
+      by-method = checks.method-within method (five .0);
       enough = checks.room-enough room (rowCount words) (five .1);
     }
+
+-- And where they hold there is no refusal.
+pub refinable : (words : List ℕ) (m method room : ℕ) → Refinable words m method room → refineRefusal words m method room ≡ notRefused
+unfolding refineRefusal
+refinable words m method room facts =
+    let four = checks.allowed-processors m (processors-allowed m (facts .some-processor) (facts .few)) in
+    let five = checks.within-method method (facts .by-method) in
+    let seven = checks.enough-room room (rowCount words) (facts .enough) in
+    checks.sound-passes words _
+    (record { rows = facts .rows; nothing-between = checks.first-of-none _ _ four (checks.first-of-none _ _ five seven) })
 
 -- Either engine gives one bound a row.
 pub rounds-length : (words : List ℕ) (m method : ℕ) → length (rounds (sheetOf words) (askOf words m method)) ≡ rowCount words
@@ -81,6 +86,18 @@ module _ (engine : Engine) (words : List ℕ) (m method : ℕ) (out : List ℕ) 
   refine-answered zero seen count new is-seen is-new sized = (
     ap (λ (n : ℕ). let r : Refined = record { refusal = 0; place = 0; marks = n } in r) is-seen ∙ sym (not-refused _ _ _ zero),
     rw (← sized, is-new) (front-put _ _ out zero),
+  )
+
+  -- The answer carries the refusal's number and place.
+  pub refined-number : (refined engine words m method (length out)) .refusal ≡ (refineRefusal words m method (length out)) .number
+  unfolding refined
+  refined-number = number-kept {A = Refined} (λ r. r .refusal) ((refineRefusal words m method (length out)) .number) _ _ refl refl
+
+  -- It is not refused exactly where everything asked for holds.
+  pub refined-not-refused : ((refined engine words m method (length out)) .refusal ≡ 0) ↔ Refinable words m method (length out)
+  refined-not-refused = (
+    λ zero. refining words m method (length out) (sym refined-number ∙ zero),
+    λ facts. refined-number ∙ ap (λ (f : Refusal). f .number) (refinable words m method (length out) facts),
   )
 
   -- Two results that a contract allows are equal, and so are two written lists.

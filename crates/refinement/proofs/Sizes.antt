@@ -6,8 +6,8 @@ use lib.ListN.{getD}
 use Rattle.rows.specs.Words.{rowCount}
 use Rattle.rows.proofs.Words.{cost-word, period-word}
 use Rattle.rows.proofs.Checks.{sound-row}
-use Rattle.refinement.specs.Inner.{Ready}
-use Rattle.refinement.specs.Kept.{Sizes}
+use Rattle.refinement.specs.Question.{Ready}
+use Rattle.refinement.specs.Inner.Kept.{Sizes}
 use Rattle.refinement.proofs.Limits.{bound-in-range}
 
 pub sizes : (words R : List ℕ) → Ready words R → (i : ℕ) → i < rowCount words

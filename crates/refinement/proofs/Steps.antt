@@ -31,7 +31,8 @@ use Rattle.rows.specs.Words.{rowCount, sheetOf, foundOf, boundOr}
 use Rattle.rows.proofs.Words.{sheet-rows}
 use Rattle.rows.proofs.Checks.{sound-row}
 use Rattle.refinement.specs.Refinement.{askOf}
-use Rattle.refinement.specs.Inner.{Ready, isFound, boundsSum, AfterPass, Copied}
+use Rattle.refinement.specs.Question.{Ready}
+use Rattle.refinement.specs.Inner.{isFound, boundsSum, AfterPass, Copied}
 
 -- The bound of an answer, and whether there is one, as the code says it and as the definitions say it.
 bound-or-else : (o : Option ℕ) (deadline : ℕ) → boundOr (foundOf o) deadline ≡ orElse o deadline

@@ -11,7 +11,7 @@ use Rattle.laws.proofs.Choice.{better-orElse}
 use Rattle.laws.proofs.Line.{under-smaller, under-add, stays-below}
 use Rattle.laws.proofs.Sum.{total-step, unless-here, unless-other}
 use Rattle.laws.specs.Choice.{Better}
-use Rattle.laws.specs.Line.{Under}
+use Rattle.laws.specs.Inner.{Under}
 use Rattle.laws.specs.Sum.{total}
 use Rattle.model.specs.Sheet.{Sheet}
 use Rattle.model.specs.Interference.{share, carried, work, shareOf, workOf, others, bclTerm, bclValue, rtaTerm, rtaRight}
@@ -22,7 +22,7 @@ use Rattle.model.proofs.Answer.{method-zero, method-other, answer-fixed, answer
 use Rattle.model.proofs.Ray.{next-step, within}
 use Rattle.rows.specs.Words.{rowCount, sheetOf}
 use Rattle.rows.proofs.Words.{sheet-rows}
-use Rattle.refinement.specs.Ray.{termBy, capBy, stepTo, termAlong, capAlong, addedAlong, sumAlong, Lies, OnWay, Aimed, SmallLine, SumLine, StaysBelow, Reaches}
+use Rattle.refinement.specs.Inner.Ray.{termBy, capBy, stepTo, termAlong, capAlong, addedAlong, sumAlong, Lies, OnWay, Aimed, SmallLine, SumLine, StaysBelow, Reaches}
 use Rattle.refinement.specs.Refinement.{askOf}
 use Rattle.refinement.proofs.Limits.{not-passed}
 

@@ -14,17 +14,10 @@ use Rattle.model.specs.Refine.{Ask, marks}
 use Rattle.rows.specs.declared.Found.{Found}
 use Rattle.rows.specs.declared.Found.the-variants.{At, Nowhere}
 use Rattle.rows.specs.Words.{rowCount, sheetOf}
-use Rattle.rows.specs.Inner.{SoundRows}
-
--- Each bound lies from its row's cost to its deadline.
-abbrev pub InRange : Sheet → List ℕ → Type 0
-InRange s R = (i : ℕ) → i < s .rows → (s .cost i ≤ getD R i 0) × (getD R i 0 ≤ s .deadline i)
-
--- Words that were checked, with one bound in range for each row.
-pub record Ready (words : List ℕ) (R : List ℕ) : Type 0 where
-  pub rows : SoundRows words
-  pub one-each : length R ≡ rowCount words
-  pub in-range : InRange (sheetOf words) R
+use Rattle.rows.specs.Checks.{SoundRows}
+use Rattle.refinement.specs.Question.{Ready}
+pub mod Kept
+pub mod Ray
 
 -- The most that each other row takes of the time before row k's deadline, and 0 for row k.
 unfoldable pub shares : Sheet → ℕ → List ℕ → List ℕ

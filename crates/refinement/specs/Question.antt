@@ -3,7 +3,7 @@ use mathlib.Core.Path.{_≡_}
 use mathlib.Core.Bool.{Bool, _&&_}
 use mathlib.Core.List.{List}
 use mathlib.Core.Option.{Option, none, some}
-use Prim.Native.Nat.{ℕ}
+use Prim.Native.Nat.{ℕ, _≤_, _<_}
 use lib.Dec.{leb, ltb, eqb}
 use lib.ListN.{length, getD}
 use Rattle.laws.specs.Choice.{pick, unlessRefused}
@@ -13,8 +13,8 @@ use Rattle.model.specs.Answer.{methodOf, answer, Answers}
 use Rattle.rows.specs.declared.Found.{Found}
 use Rattle.rows.specs.declared.Found.the-variants.{At, Nowhere}
 use Rattle.rows.specs.declared.Refusal.{Refusal}
-use Rattle.rows.specs.Words.{sheetOf, foundOf}
-use Rattle.rows.specs.Checks.{refused, notRefused, processorsRefusal, methodRefusal, firstOf, wordsRefusal}
+use Rattle.rows.specs.Words.{rowCount, sheetOf, foundOf}
+use Rattle.rows.specs.Checks.{refused, notRefused, processorsRefusal, methodRefusal, firstOf, wordsRefusal, SoundRows}
 use Rattle.refinement.specs.declared.OneRow.{OneRow}
 
 -- A bound lies from its row's cost to its deadline.
@@ -46,6 +46,25 @@ oneRow words processors method bounds row =
 unfoldable pub answerOf : Found → Option ℕ
 answerOf (At bound) = some bound
 answerOf Nowhere = none
+
+-- Each bound lies from its row's cost to its deadline.
+abbrev pub InRange : Sheet → List ℕ → Type 0
+InRange s R = (i : ℕ) → i < s .rows → (s .cost i ≤ getD R i 0) × (getD R i 0 ≤ s .deadline i)
+
+-- Words that were checked, with one bound in range for each row.
+pub record Ready (words : List ℕ) (R : List ℕ) : Type 0 where
+  pub rows : SoundRows words
+  pub one-each : length R ≡ rowCount words
+  pub in-range : InRange (sheetOf words) R
+
+-- What a question that is not refused was given: sound rows with one bound in range for each, 1 to 64 processors, a method, and a row that is
+-- there.
+pub record Askable (words : List ℕ) (processors method : ℕ) (bounds : List ℕ) (row : ℕ) : Type 0 where
+  pub ready : Ready words bounds
+  pub there : row < rowCount words
+  pub some-processor : 1 ≤ processors
+  pub few : processors ≤ 64
+  pub by-method : method ≤ 1
 
 -- What an answer to the question promises: the table's refusal exactly; where nothing is refused the least response time (or the formula's
 -- value) or that there is none; refused, every other number is 0.

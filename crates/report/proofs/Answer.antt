@@ -19,8 +19,9 @@ use Rattle.grammar.specs.Grammar.{processorsWritten, rowsWritten}
 use Rattle.grammar.specs.Lines.{wordsWritten}
 use Rattle.grammar.specs.Sheets.{readRefusal, readSheet, wordsAfter, writeAnswer}
 use Rattle.grammar.proofs.Refusals.{read-refused, words-length, write-accepted}
-use Rattle.grammar.proofs.Entries.{Readable, read-number, read-found, read-answers, read-leaves}
-use Rattle.report.specs.Lines.{head, line, resultLength, refusalLine}
+use Rattle.grammar.specs.Meaning.{Readable}
+use Rattle.grammar.proofs.Entries.{read-number, read-found, read-answers, read-leaves}
+use Rattle.report.specs.Lines.{resultHead, resultLine, resultLength, refusalLine}
 use Rattle.report.specs.Result.{resultOf, writeResult, resultAfter, mostWords, answerText, answerRefusal, answerSheet, answerAfter}
 use Rattle.report.proofs.Text.{refusal-length}
 use Rattle.report.proofs.Entries.{room-decides, result-of-length}
@@ -92,7 +93,7 @@ module _ (bytes zeros : List ℕ) (whole : length zeros ≡ 192) (read : Read) (
 
 -- No answer is longer than the result sheet of 64 rows: a refused sheet's line is shorter, and a sheet that was read has no more rows.
 pub longest-answer : (bytes : List ℕ) → length (answerText bytes) ≤ resultLength 64
-unfolding answerText mostWords resultLength head line
+unfolding answerText mostWords resultLength resultHead resultLine
 longest-answer bytes = decided (ℕ-discrete ((readRefusal bytes 192) .number) 0)
   where
     decided : Dec ((readRefusal bytes 192) .number ≡ 0) → length (answerText bytes) ≤ resultLength 64

@@ -7,17 +7,19 @@ use lib.ListN.{length, drop, length-append}
 use Rattle.model.specs.Refine.{atOnce, marks}
 use Rattle.rows.specs.declared.Refusal.{Refusal}
 use Rattle.rows.specs.Words.{rowCount, sheetOf}
-use Rattle.rows.specs.Checks.{refused, processorsRefusal, methodRefusal, roomRefusal, firstOf, wordsRefusal}
-use Rattle.rows.specs.Inner.{SoundRows}
+use Rattle.rows.specs.Checks.{refused, processorsRefusal, methodRefusal, roomRefusal, firstOf, wordsRefusal, SoundRows}
 use Rattle.rows.proofs.Words.{sheet-rows}
 use Rattle.rows.proofs.Checks as checks
 use Rattle.refinement.specs.declared.Refined.{Refined}
 use Rattle.refinement.specs.Refinement.{askOf, refineRefusal, finalBounds, refined, refinedWords}
-use Rattle.refinement.proofs.Refinement.{at-once-length, refine-answered}
+use Rattle.refinement.proofs.Refinement.{at-once-length, refine-answered, refinable}
 use Rattle.report.specs.Lines.{resultLength}
-use Rattle.report.specs.Result.{resultOf, resultRefusal}
+use Rattle.report.specs.Result.{resultOf, resultRefusal, Reportable, writeResult}
 use Rattle.report.specs.Inner.{linesFrom}
 use Rattle.report.proofs.Text.{text-is, result-length}
+use mathlib.Core.Logic.{_↔_}
+use Rattle.model.proofs.Sheet.{allowed-processors, processors-allowed}
+use Rattle.grammar.proofs.Entries.{written-number}
 
 -- The refusal, from what each call gave.
 pub chain : (words : List ℕ) (m method room : ℕ) {five need seven rest four whole : ℕ} {r : Refusal} → five ≡ methodRefusal method
@@ -26,37 +28,33 @@ pub chain : (words : List ℕ) (m method room : ℕ) {five need seven rest four 
 unfolding resultRefusal
 chain words m method room is-five is-need is-seven is-rest is-four is-whole is-refusal = cc
 
--- What number 0 says.
-pub record Writable (words : List ℕ) (m method room : ℕ) : Type 0 where
-  pub rows : SoundRows words
-  pub processors : processorsRefusal m ≡ 0
-  pub methods : methodRefusal method ≡ 0
-  pub enough : resultLength (rowCount words) ≤ room
-
-pub writable : (words : List ℕ) (m method room : ℕ) → (resultRefusal words m method room) .number ≡ 0 → Writable words m method room
+-- Number 0 gives every fact that the work needs.
+pub reportable : (words : List ℕ) (m method room : ℕ) → (resultRefusal words m method room) .number ≡ 0 → Reportable words m method room
 unfolding resultRefusal
-writable words m method room zero =
+reportable words m method room zero =
     let seven = roomRefusal room (resultLength (rowCount words)) in
     let facts = checks.accepted words (firstOf (processorsRefusal m) (firstOf (methodRefusal method) seven)) zero in
     let four = checks.first-of-zero (processorsRefusal m) (firstOf (methodRefusal method) seven) (facts .nothing-between) in
     let five = checks.first-of-zero (methodRefusal method) seven (four .1) in
     record {
       rows = facts .rows;
-      processors = four .0;
-      methods = five .0;
+      some-processor = allowed-processors m (checks.processors-allowed m (four .0)) .0;
+      few = allowed-processors m (checks.processors-allowed m (four .0)) .1;
+      by-method = checks.method-within method (five .0);
       enough = checks.room-enough room (resultLength (rowCount words)) (five .1);
     }
 
 -- Then refining into 64 words is not refused.
-pub refines : (words : List ℕ) (m method room : ℕ) → Writable words m method room → (refineRefusal words m method 64) .number ≡ 0
-unfolding refineRefusal
+pub refines : (words : List ℕ) (m method room : ℕ) → Reportable words m method room → (refineRefusal words m method 64) .number ≡ 0
 refines words m method room facts =
     ap (λ (r : Refusal). r .number)
-    (checks.sound-passes words _
+    (refinable words m method 64
     (record {
       rows = facts .rows;
-      nothing-between = checks.first-of-none _ _ (facts .processors)
-          (checks.first-of-none _ _ (facts .methods) (checks.enough-room 64 (rowCount words) (facts .rows .at-most)));
+      some-processor = facts .some-processor;
+      few = facts .few;
+      by-method = facts .by-method;
+      enough = facts .rows .at-most;
     }))
 
 -- Sound rows with processors and method allowed are refused only for want of room.
@@ -65,6 +63,19 @@ pub room-decides : (words : List ℕ) (m method room : ℕ) → SoundRows words 
 unfolding resultRefusal
 room-decides words m method room sound four five =
     ap (wordsRefusal words) (checks.next-decides _ _ four ∙ checks.next-decides _ _ five) ∙ checks.sound-between words _ sound
+
+-- So writing is not refused exactly where everything asked for holds.
+pub result-not-refused : (words : List ℕ) (m method room : ℕ) → ((writeResult words m method room) .refusal ≡ 0) ↔ Reportable words m method room
+unfolding writeResult
+result-not-refused words m method room = (
+  λ zero. reportable words m method room (sym (written-number (resultRefusal words m method room) (resultLength (rowCount words))) ∙ zero),
+  λ facts.
+      written-number (resultRefusal words m method room) (resultLength (rowCount words))
+      ∙ ap (λ (r : Refusal). r .number)
+      (room-decides words m method room (facts .rows)
+      (checks.allowed-processors m (processors-allowed m (facts .some-processor) (facts .few))) (checks.within-method method (facts .by-method)))
+      ∙ checks.enough-room room (resultLength (rowCount words)) (facts .enough),
+)
 
 -- A result sheet has the length that its rows say.
 pub result-of-length : (words : List ℕ) (m method : ℕ) → length (resultOf words m method) ≡ resultLength (rowCount words)

@@ -15,7 +15,7 @@ use Rattle.digits.proofs.Number.{digits-length}
 use Rattle.model.specs.Sheet.{Sheet}
 use Rattle.model.specs.Refine.{Ask, marked, marks, accepted}
 use Rattle.model.proofs.Engines.{marks-say}
-use Rattle.report.specs.Lines.{head, line, resultLength, lineText, firstLine, rowLine, lineOf, resultBytes, refusalLine}
+use Rattle.report.specs.Lines.{resultHead, resultLine, resultLength, lineText, resultFirstLine, resultRowLine, resultLineOf, resultBytes, refusalLine}
 use Rattle.report.specs.Inner.{lineFrom, isSet, linesFrom}
 
 -- A line has five bytes and its number's digits.
@@ -23,18 +23,18 @@ pub line-length : (kind small count value : ℕ) → length (lineText kind small
 unfolding lineText
 line-length kind small count value = simp (length-append, digits-length) (omega arith)
 
-pub first-line-length : (accepted rows : ℕ) → length (firstLine accepted rows) ≡ head
-unfolding firstLine head
+pub first-line-length : (accepted rows : ℕ) → length (resultFirstLine accepted rows) ≡ resultHead
+unfolding resultFirstLine resultHead
 first-line-length accepted rows = line-length 0x11 accepted 2 rows
 
-pub row-line-length : (marks : ℕ) (bounds : List ℕ) (k : ℕ) → length (lineFrom marks bounds k) ≡ line
-unfolding lineFrom rowLine line
+pub row-line-length : (marks : ℕ) (bounds : List ℕ) (k : ℕ) → length (lineFrom marks bounds k) ≡ resultLine
+unfolding lineFrom resultRowLine resultLine
 row-line-length marks bounds k = line-length 0x12 (bitAt marks k) 6 (getD bounds k 0)
 
 -- So many lines of rows have 11 bytes each.
-pub rows-length : (marks : ℕ) (bounds : List ℕ) (n : ℕ) → length (joined (lineFrom marks bounds) n) ≡ line * n
-unfolding line
-rows-length marks bounds n = joined-length (lineFrom marks bounds) line n (λ j h. row-line-length marks bounds j) ∙ omega arith
+pub rows-length : (marks : ℕ) (bounds : List ℕ) (n : ℕ) → length (joined (lineFrom marks bounds) n) ≡ resultLine * n
+unfolding resultLine
+rows-length marks bounds n = joined-length (lineFrom marks bounds) resultLine n (λ j h. row-line-length marks bounds j) ∙ omega arith
 
 -- A bit is set exactly if the row is marked.
 set-is : (b : Bool) → eqb (bit b) 1 ≡ b
@@ -44,20 +44,20 @@ set-is false = refl
 -- The lines from marks as one number and from bounds in front of anything are the result sheet.
 pub text-is : (s : Sheet) (ask : Ask) (R rest : List ℕ) → length R ≡ s .rows
     → linesFrom (marks s ask R) (R ++ rest) (s .rows) ≡ resultBytes s ask R
-unfolding linesFrom resultBytes accepted lineFrom lineOf isSet
+unfolding linesFrom resultBytes accepted lineFrom resultLineOf isSet
 text-is s ask R rest size =
-    ap₂ (λ (b : Bool) (l : List ℕ). firstLine (bit b) (s .rows) ++ l)
+    ap₂ (λ (b : Bool) (l : List ℕ). resultFirstLine (bit b) (s .rows) ++ l)
     (every-same _ _ (s .rows) (λ k h. ap (λ (x : ℕ). eqb x 1) (marks-say s ask R .each k h) ∙ set-is (marked ask R k)))
     (joined-same _ _ (s .rows)
     (λ k h.
-    ap₂ rowLine (marks-say s ask R .each k h) (List·getD-append R rest 0 k (rw size h))))
+    ap₂ resultRowLine (marks-say s ask R .each k h) (List·getD-append R rest 0 k (rw size h))))
 
 -- A result sheet is as long as its rows say.
 pub result-length : (s : Sheet) (ask : Ask) (R : List ℕ) → length (resultBytes s ask R) ≡ resultLength (s .rows)
-unfolding resultBytes resultLength lineOf rowLine line
+unfolding resultBytes resultLength resultLineOf resultRowLine resultLine
 result-length s ask R =
-    length-append (firstLine (bit (accepted s ask R)) (s .rows)) (joined (lineOf ask R) (s .rows))
-    ∙ rw (first-line-length (bit (accepted s ask R)) (s .rows), joined-length (lineOf ask R) 11 (s .rows) (λ j h. line-length 0x12 _ 6 _))
+    length-append (resultFirstLine (bit (accepted s ask R)) (s .rows)) (joined (resultLineOf ask R) (s .rows))
+    ∙ rw (first-line-length (bit (accepted s ask R)) (s .rows), joined-length (resultLineOf ask R) 11 (s .rows) (λ j h. line-length 0x12 _ 6 _))
     (omega arith)
 
 -- The line of a refused sheet has 9 bytes.

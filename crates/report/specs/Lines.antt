@@ -9,36 +9,36 @@ use Rattle.model.specs.Refine.{Ask, marked, accepted}
 use Rattle.digits.specs.Digits.{digits}
 
 -- The length of line one: `11`, accepted (2 digits), rows (2 digits), one byte 0A.
-unfoldable pub head : ℕ
-head = 7
+unfoldable pub resultHead : ℕ
+resultHead = 7
 
 -- The length of a row's line: `12`, marked (2 digits), bound (6 digits), one byte 0A.
-unfoldable pub line : ℕ
-line = 11
+unfoldable pub resultLine : ℕ
+resultLine = 11
 
 -- A result sheet of n rows has 7 + 11n bytes.
 unfoldable pub resultLength : ℕ → ℕ
-resultLength rows = head + line * rows
+resultLength rows = resultHead + resultLine * rows
 
 -- Every line here: its kind and a small number (2 digits each), a number of so many digits, 0A.
 unfoldable pub lineText : ℕ → ℕ → ℕ → ℕ → List ℕ
 lineText kind small count value = digits 2 kind ++ digits 2 small ++ digits count value ++ (0x0A ∷ [])
 
 -- Line one: `11`, accepted (`01` or `00`), rows (2 digits), 0A.
-unfoldable pub firstLine : ℕ → ℕ → List ℕ
-firstLine accepted rows = lineText 0x11 accepted 2 rows
+unfoldable pub resultFirstLine : ℕ → ℕ → List ℕ
+resultFirstLine accepted rows = lineText 0x11 accepted 2 rows
 
 -- A row's line: `12`, marked (`01` or `00`), bound (6 digits), 0A.
-unfoldable pub rowLine : ℕ → ℕ → List ℕ
-rowLine marked bound = lineText 0x12 marked 6 bound
+unfoldable pub resultRowLine : ℕ → ℕ → List ℕ
+resultRowLine marked bound = lineText 0x12 marked 6 bound
 
 -- The line of row k under final bounds.
-unfoldable pub lineOf : Ask → List ℕ → ℕ → List ℕ
-lineOf ask R k = rowLine (bit (marked ask R k)) (getD R k 0)
+unfoldable pub resultLineOf : Ask → List ℕ → ℕ → List ℕ
+resultLineOf ask R k = resultRowLine (bit (marked ask R k)) (getD R k 0)
 
 -- A whole result sheet under final bounds: line one, then one line a row.
 unfoldable pub resultBytes : Sheet → Ask → List ℕ → List ℕ
-resultBytes s ask R = firstLine (bit (accepted s ask R)) (s .rows) ++ joined (lineOf ask R) (s .rows)
+resultBytes s ask R = resultFirstLine (bit (accepted s ask R)) (s .rows) ++ joined (resultLineOf ask R) (s .rows)
 
 -- Where the program refuses it writes one line: `1F`, number (2 digits), place (4 digits), 0A.
 unfoldable pub refusalLine : ℕ → ℕ → List ℕ

@@ -1,13 +1,14 @@
 -- The result sheet of rows, and the whole answer to a sheet's bytes: what is returned and what is left in lent space, refused or not.
+use mathlib.Core.Path.{_≡_}
 use mathlib.Core.List.{List}
-use Prim.Native.Nat.{ℕ}
+use Prim.Native.Nat.{ℕ, _≤_}
 use lib.ListN.{length}
 use Rattle.laws.specs.Choice.{unlessRefused}
 use Rattle.laws.specs.Fill.{atFront}
 use Rattle.model.specs.Refine.{atOnce}
 use Rattle.rows.specs.declared.Refusal.{Refusal}
 use Rattle.rows.specs.Words.{rowCount, sheetOf}
-use Rattle.rows.specs.Checks.{refused, processorsRefusal, methodRefusal, roomRefusal, firstOf, wordsRefusal}
+use Rattle.rows.specs.Checks.{refused, processorsRefusal, methodRefusal, roomRefusal, firstOf, wordsRefusal, SoundRows}
 use Rattle.refinement.specs.Refinement.{askOf, finalBounds}
 use Rattle.grammar.specs.declared.Written.{Written}
 use Rattle.grammar.specs.Grammar.{processorsWritten}
@@ -33,6 +34,14 @@ writeResult words processors method room = writeAnswer (resultRefusal words proc
 unfoldable pub resultAfter : List ℕ → ℕ → ℕ → List ℕ → List ℕ
 resultAfter words processors method out =
     atFront ((resultRefusal words processors method (length out)) .number) (resultOf words processors method) out
+
+-- What writing it was given where it is not refused: sound rows, 1 to 64 processors, a method, and room for the sheet.
+pub record Reportable (words : List ℕ) (processors method room : ℕ) : Type 0 where
+  pub rows : SoundRows words
+  pub some-processor : 1 ≤ processors
+  pub few : processors ≤ 64
+  pub by-method : method ≤ 1
+  pub enough : resultLength (rowCount words) ≤ room
 
 -- The words that the largest allowed sheet has: 64 rows of three.
 unfoldable pub mostWords : ℕ

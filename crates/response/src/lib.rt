@@ -12,7 +12,8 @@ ghost use Rattle.laws.specs.Sum.{total};
 ghost use Rattle.model.specs.Interference.{rtaRight};
 ghost use Rattle.model.specs.Answer.{bclAnswer, rtaAnswer, methodOf, answer};
 ghost use Rattle.rows.specs.Words.{rowCount, sheetOf, foundOf, boundOr, foundFrom};
-ghost use Rattle.refinement.specs.Inner.{Ready, Prepared, listedShare, termOf};
+ghost use Rattle.refinement.specs.Question.{Ready};
+ghost use Rattle.refinement.specs.Inner.{Prepared, listedShare, termOf};
 
 // What another row adds at X. Where the share or the cap is 0 or 1 it is the least, and no division is needed.
 pub fn term(words: &[u32], bounds: &[u32], taken: &[u32], other: u32, x: u32, cap: u32) -> u32

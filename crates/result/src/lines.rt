@@ -5,7 +5,7 @@ ghost use Prim.Native.Nat.{_+_, _*_, _≤_, _<_};
 ghost use lib.ListN.{length};
 ghost use Rattle.laws.specs.Fill.{joined};
 ghost use Rattle.laws.specs.Bits.{bit, bitAt, every};
-ghost use Rattle.report.specs.Lines.{line, resultLength, lineText};
+ghost use Rattle.report.specs.Lines.{resultLine, resultLength, lineText};
 ghost use Rattle.report.specs.Inner.{lineFrom, isSet, linesFrom};
 
 // The length of line one.
@@ -54,7 +54,7 @@ pub(crate) fn put_line(out: &mut [u8], kind: u32, small: u32, count: usize, valu
 
 // Writes one line a row.
 pub(crate) fn put_rows(marks: u64, bounds: &[u32], rows: u32, out: &mut [u8])
-    requires { ⌜ (rows ≤ 64) × (rows ≤ length (now bounds)) × (length (now out) ≡ line * rows) ⌝ }
+    requires { ⌜ (rows ≤ 64) × (rows ≤ length (now bounds)) × (length (now out) ≡ resultLine * rows) ⌝ }
     ensures { λ _. ⌜ now (out .exit) ≡ joined (lineFrom marks (now (bounds .entry))) rows ⌝ }
 {
     let mut row = 0;

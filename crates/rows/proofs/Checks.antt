@@ -16,8 +16,8 @@ use native.Mathlib.Decide.{ℕ-discrete}
 use Rattle.model.specs.Sheet.{Sheet, rowAllowedAt, processorsAllowed}
 use Rattle.rows.specs.declared.Refusal.{Refusal}
 use Rattle.rows.specs.Words.{rowCount, sheetOf, outside, firstOutside}
-use Rattle.rows.specs.Checks.{refused, notRefused, notRows, tooMany, processorsRefusal, roomRefusal, firstOf, rowsRefusal, wordsRefusal}
-use Rattle.rows.specs.Inner.{shapeRefusal, SoundRows, Accepted}
+use Rattle.rows.specs.Checks.{refused, notRefused, notRows, tooMany, processorsRefusal, methodRefusal, roomRefusal, firstOf, rowsRefusal, wordsRefusal, SoundRows, Accepted}
+use Rattle.rows.specs.Inner.{shapeRefusal}
 use Rattle.model.proofs.Sheet.{SizedRow, count-allowed, row-sized}
 use Rattle.rows.proofs.Words.{sheet-rows}
 
@@ -205,3 +205,16 @@ sound-between words between sound = decided (ℕ-discrete between 0)
 pub next-decides : (first second : ℕ) → first ≡ 0 → firstOf first second ≡ second
 unfolding firstOf
 next-decides first second zero = pick-yes _ _ _ (eq-eqb first 0 zero)
+
+-- The method is not refused exactly if it is 0 or 1.
+pub method-within : (method : ℕ) → methodRefusal method ≡ 0 → method ≤ 1
+unfolding methodRefusal
+method-within method zero = split (ltb 1 method) refl zero
+  where
+    split : (b : Bool) → ltb 1 method ≡ b → _≡_ {A = ℕ} (pick b 5 0) 0 → method ≤ 1
+    split true above zero = absurd (omega arith)
+    split false within zero = ltb-false 1 method within
+
+pub within-method : (method : ℕ) → method ≤ 1 → methodRefusal method ≡ 0
+unfolding methodRefusal
+within-method method small = pick-no _ _ _ (le-ltb 1 method small)

@@ -1,12 +1,13 @@
 -- Refusal numbers. Checks are made in number order; the first that holds is given. Number 0 is no refusal, and place is 0 unless stated.
+use mathlib.Core.Path.{_≡_}
 use mathlib.Core.Bool.{Bool, not, _&&_, _||_}
 use mathlib.Core.List.{List}
 use mathlib.Core.Option.{Option, none, some}
-use Prim.Native.Nat.{ℕ, _%_}
+use Prim.Native.Nat.{ℕ, _*_, _%_, _≤_}
 use lib.Dec.{eqb, leb, ltb}
 use lib.ListN.{length}
 use Rattle.laws.specs.Choice.{pick}
-use Rattle.model.specs.Sheet.{processorsAllowed}
+use Rattle.model.specs.Sheet.{Allowed, processorsAllowed}
 use Rattle.rows.specs.declared.Refusal.{Refusal}
 use Rattle.rows.specs.Words.{rowCount, sheetOf, firstOutside}
 
@@ -59,3 +60,15 @@ wordsRefusal words between =
     (pick (tooMany words) (refused 3 0)
     (pick (not (eqb between 0)) (refused between 0)
     (rowsRefusal (firstOutside (sheetOf words)))))
+
+-- Words that are 1 to 64 whole rows of allowed sizes.
+pub record SoundRows (words : List ℕ) : Type 0 where
+  pub whole : length words ≡ 3 * rowCount words
+  pub one-or-more : 1 ≤ rowCount words
+  pub at-most : rowCount words ≤ 64
+  pub allowed : Allowed (sheetOf words)
+
+-- What number 0 says, and what it takes: the words are sound, and none of the entry's own checks held.
+pub record Accepted (words : List ℕ) (between : ℕ) : Type 0 where
+  pub rows : SoundRows words
+  pub nothing-between : between ≡ 0

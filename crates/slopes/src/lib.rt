@@ -9,7 +9,7 @@ ghost use Rattle.model.specs.Answer.{methodOf};
 ghost use Rattle.model.specs.Interference.{share, carried};
 ghost use Rattle.model.specs.Inner.{along};
 ghost use Rattle.rows.specs.Words.{rowCount, sheetOf};
-ghost use Rattle.refinement.specs.Ray.{termAlong, capAlong, addedAlong, sumAlong, Lies, Lasts, FallsFrom, Lower, OnWay, Aimed, SmallLine, SumLine, StaysBelow};
+ghost use Rattle.refinement.specs.Inner.Ray.{termAlong, capAlong, addedAlong, sumAlong, Lies, Lasts, FallsFrom, Lower, OnWay, Aimed, SmallLine, SumLine, StaysBelow};
 
 // A line that begins at a value and falls by a slope a step, and for how many steps it holds.
 pub struct Line {

@@ -12,7 +12,8 @@ ghost use Prim.Native.Nat.{_+_, _≤_, _<_, _*_, _^_};
 ghost use lib.ListN.{length};
 ghost use Rattle.model.specs.Answer.{methodOf, answer};
 ghost use Rattle.rows.specs.Words.{rowCount, sheetOf, foundOf, boundOr};
-ghost use Rattle.refinement.specs.Inner.{Ready, isFound, AfterPass};
+ghost use Rattle.refinement.specs.Question.{Ready};
+ghost use Rattle.refinement.specs.Inner.{isFound, AfterPass};
 ghost use Rattle.laws.specs.Bits.{bit};
 ghost use Rattle.model.specs.Refine.{round, sweep, marks};
 ghost use Rattle.model.specs.Inner.{Held};
@@ -103,7 +104,7 @@ pub fn fill_turns(
 }
 
 // What a pass tells: whether it changed a bound, and, where it did not, the marks.
-pub struct Outcome {
+pub struct Tally {
     pub moved: bool,
     pub seen: u64,
 }
@@ -119,7 +120,7 @@ pub fn sweep_rows(
     count: u32,
     others: &mut [u32],
     room: &mut [u32],
-) -> Outcome
+) -> Tally
     requires { ⌜ Ready (now words) (now bounds) × (count ≡ rowCount (now words)) × (1 ≤ processors) × Held (sheetOf (now words)) (askOf (now words) processors method) (now bounds) × (processors ≤ 64) × (length (now others) ≡ 320) × (length (now room) ≡ count) × (length (now before) ≡ count) ⌝ }
     ensures { λ r. ⌜ AfterPass (sheetOf (now (words .entry))) (askOf (now (words .entry)) processors method) (sweep (sheetOf (now (words .entry))) (askOf (now (words .entry)) processors method) (rowCount (now (words .entry)))) (now (bounds .entry)) (now (bounds .exit)) (r .moved) (r .seen) ⌝ }
 {
@@ -147,7 +148,7 @@ pub fn sweep_rows(
         bounds[row as usize] = bound;
         row += 1;
     }
-    Outcome {
+    Tally {
         moved: moved,
         seen: seen,
     }

@@ -6,19 +6,12 @@ use native.Mathlib.Omega.{arith}
 use Rattle.laws.proofs.Choice.{pick-yes}
 use Rattle.model.specs.Sheet.{horizonAllowed}
 use Rattle.model.proofs.Sheet.{allowed-horizon, horizon-allowed}
-use Rattle.rows.specs.Checks.{notRefused}
-use Rattle.rows.specs.Inner.{SoundRows}
+use Rattle.rows.specs.Checks.{notRefused, SoundRows}
 use Rattle.rows.proofs.Checks.{allowed-by-zero, accepted, sound-passes}
-use Rattle.verdict.specs.OneProcessor.{horizonRefusal, refusalOf}
-
--- What number 0 says.
-pub record Checked (words : List ℕ) (horizon : ℕ) : Type 0 where
-  pub sound : SoundRows words
-  pub from-one : 1 ≤ horizon
-  pub within : horizon ≤ 16_777_216
+use Rattle.verdict.specs.OneProcessor.{horizonRefusal, refusalOf, Testable}
 
 -- Number 0 gives every fact.
-pub checked : (words : List ℕ) (h : ℕ) → (refusalOf words h) .number ≡ 0 → Checked words h
+pub checked : (words : List ℕ) (h : ℕ) → (refusalOf words h) .number ≡ 0 → Testable words h
 unfolding refusalOf horizonRefusal
 checked words h zero =
     let facts = accepted words (horizonRefusal h) zero in
@@ -26,7 +19,7 @@ checked words h zero =
     record { sound = facts .rows; from-one = range .0; within = range .1 }
 
 -- The facts give number 0 and place 0.
-pub checked-passes : (words : List ℕ) (h : ℕ) → Checked words h → refusalOf words h ≡ notRefused
+pub checked-passes : (words : List ℕ) (h : ℕ) → Testable words h → refusalOf words h ≡ notRefused
 unfolding refusalOf horizonRefusal
 checked-passes words h facts =
     sound-passes words (horizonRefusal h)

@@ -14,8 +14,9 @@ use Rattle.rows.specs.Words.{sheetOf}
 use Rattle.verdict.specs.declared.Outcome.{Outcome}
 use Rattle.verdict.specs.declared.Outcome.the-variants.{Miss, Fits, Undecided}
 use Rattle.verdict.specs.declared.Answer.{Answer}
-use Rattle.verdict.specs.OneProcessor.{refusalOf, outcomeOf, verdictOf, outcomeNumber, outcomeValue, refusedAnswer, answered, oneProcessor, Promise}
+use Rattle.verdict.specs.OneProcessor.{refusalOf, outcomeOf, verdictOf, outcomeNumber, outcomeValue, refusedAnswer, answered, oneProcessor, Promise, Testable}
 use Rattle.verdict.proofs.Checked.{checked, checked-passes}
+use mathlib.Core.Logic.{_↔_}
 
 -- A verdict in the code's words is read back as itself, and an outcome too.
 pub verdict-back : (v : Verdict) → verdictOf (outcomeOf v) ≡ v
@@ -76,6 +77,13 @@ keeps words h = split (eqb ((refusalOf words h) .number) 0) refl
           means = λ none-holds. absurd (one-holds none-holds);
           nothing = λ one-holds. refl;
         })
+
+-- It is not refused exactly where everything asked for holds.
+pub one-processor-not-refused : (words : List ℕ) (h : ℕ) → ((oneProcessor words h) .refusal ≡ 0) ↔ Testable words h
+one-processor-not-refused words h = (
+  λ zero. checked words h (sym (keeps words h .number) ∙ zero),
+  λ facts. keeps words h .number ∙ ap (λ (r : Refusal). r .number) (checked-passes words h facts),
+)
 
 -- Whatever keeps the promise is the answer.
 pub fixes : (words : List ℕ) (h : ℕ) (a : Answer) → Promise words h a → a ≡ oneProcessor words h

@@ -13,16 +13,16 @@ use Rattle.model.specs.Demand.{demandOf, demand}
 use Rattle.rows.specs.declared.Found.{Found}
 use Rattle.rows.specs.declared.Found.the-variants.{At, Nowhere}
 use Rattle.rows.specs.Words.{rowCount, sheetOf, foundOf}
-use Rattle.rows.specs.Inner.{SoundRows}
+use Rattle.rows.specs.Checks.{SoundRows}
 use Rattle.verdict.specs.declared.Look.{Look}
 use Rattle.verdict.specs.declared.Outcome.{Outcome}
 use Rattle.verdict.specs.declared.Outcome.the-variants.{Fits, Undecided}
 
 -- Sound words, how many rows they hold, and a length that no horizon allowed exceeds.
-pub record Given (words : List ℕ) (count length : ℕ) : Type 0 where
+pub record Given (words : List ℕ) (count t : ℕ) : Type 0 where
   pub sound : SoundRows words
   pub counted : count ≡ rowCount words
-  pub within : length ≤ 16_777_216
+  pub within : t ≤ 16_777_216
 
 -- The same with a horizon of at least 1 and the busy length, if it is within it.
 pub record BusyGiven (words : List ℕ) (count horizon : ℕ) (busy : Found) : Type 0 where
@@ -31,10 +31,10 @@ pub record BusyGiven (words : List ℕ) (count horizon : ℕ) (busy : Found) : T
   pub climbed : busy ≡ foundOf (busyLength (sheetOf words) horizon)
 
 -- Sound words, the place of one of their rows, and such a length.
-pub record RowGiven (words : List ℕ) (row length : ℕ) : Type 0 where
+pub record RowGiven (words : List ℕ) (row t : ℕ) : Type 0 where
   pub sound : SoundRows words
   pub here : row < rowCount words
-  pub within : length ≤ 16_777_216
+  pub within : t ≤ 16_777_216
 
 -- The jobs of a row with deadline d and period p that are due within t.
 unfoldable pub jobsWithin : ℕ → ℕ → ℕ → ℕ
@@ -65,10 +65,10 @@ abbrev pub Clear : Sheet → ℕ → ℕ → Type 0
 Clear s low high = (u : ℕ) → low < u → u ≤ high → demand s u ≤ u
 
 -- Sound words, so many of their rows from a place on, and such a length.
-pub record GroupGiven (words : List ℕ) (first size length : ℕ) : Type 0 where
+pub record GroupGiven (words : List ℕ) (first size t : ℕ) : Type 0 where
   pub sound : SoundRows words
   pub here : size ≤ rowCount words - first
-  pub within : length ≤ 16_777_216
+  pub within : t ≤ 16_777_216
 
 -- The rows go in groups of four, the last group perhaps of fewer: what group g demands in length t.
 unfoldable pub groupDemand : Sheet → ℕ → ℕ → ℕ

@@ -1,13 +1,13 @@
 -- One processor, exact: the whole answer to lent words and a horizon, and what it promises.
 use mathlib.Core.Path.{_≡_}
 use mathlib.Core.List.{List}
-use Prim.Native.Nat.{ℕ}
+use Prim.Native.Nat.{ℕ, _≤_}
 use Rattle.laws.specs.Choice.{pick, unlessRefused}
 use Rattle.model.specs.Sheet.{horizonAllowed}
 use Rattle.model.specs.Demand.{Verdict, miss, fits, undecided, verdict, Means}
 use Rattle.rows.specs.declared.Refusal.{Refusal}
 use Rattle.rows.specs.Words.{sheetOf}
-use Rattle.rows.specs.Checks.{wordsRefusal}
+use Rattle.rows.specs.Checks.{wordsRefusal, SoundRows}
 use Rattle.verdict.specs.declared.Outcome.{Outcome}
 use Rattle.verdict.specs.declared.Outcome.the-variants.{Miss, Fits, Undecided}
 use Rattle.verdict.specs.declared.Answer.{Answer}
@@ -57,6 +57,12 @@ oneProcessor words horizon =
     unlessRefused ((refusalOf words horizon) .number)
     (refusedAnswer (refusalOf words horizon))
     (answered (verdict (sheetOf words) horizon))
+
+-- What a test that is not refused was given: sound rows and a horizon from 1 to 16,777,216.
+pub record Testable (words : List ℕ) (horizon : ℕ) : Type 0 where
+  pub sound : SoundRows words
+  pub from-one : 1 ≤ horizon
+  pub within : horizon ≤ 16_777_216
 
 -- What an answer promises: it is refused exactly as the table says; not refused, its outcome means what document 01 says of it;
 -- refused, it says nothing more.

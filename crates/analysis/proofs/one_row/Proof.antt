@@ -5,8 +5,8 @@ use denote.Ref.{now}
 use Rattle.rows.specs.declared.Found.{Found}
 use Rattle.rows.specs.declared.Refusal.{Refusal}
 use Rattle.refinement.specs.declared.OneRow.{OneRow}
-use Rattle.refinement.specs.Question.{oneRowRefusal}
-use Rattle.refinement.proofs.Question.{Asked, asked, one-row-answered, one-row-refused}
+use Rattle.refinement.specs.Question.{oneRowRefusal, Askable}
+use Rattle.refinement.proofs.Question.{asked, one-row-answered, one-row-refused}
 use native.Mathlib.Omega.{arith}
 use Rattle.analysis.proofs.one_row.Statement.{statement}
 use Rattle.analysis.proofs.one_row.Tie as tie
@@ -26,7 +26,7 @@ passed : (c : tie.Else1) → let p = c .before .before .before .before in
 passed c = sym (ap (λ (r : Refusal). r .number) (c .before .question-refusal .ensures)) ∙ c .if1 .left
 
 facts : (c : tie.Else1) → let p = c .before .before .before .before in
-    Asked (now (p .args .words)) (p .args .processors) (p .args .method) (now (p .args .bounds)) (p .args .row)
+    Askable (now (p .args .words)) (p .args .processors) (p .args .method) (now (p .args .bounds)) (p .args .row)
 facts c = asked _ _ _ _ _ (passed c)
 
 cast-count : tie.Need-cast-count
@@ -35,7 +35,7 @@ cast-count c = omega (arith, facts (c .before) .ready .rows .at-most)
 answer-quickly-requires : tie.Need-answer-quickly-requires
 answer-quickly-requires c κs =
     let known = facts (c .before) in
-    (known .ready, known .there, c .row-count .ensures, known .processors, known .few)
+    (known .ready, known .there, c .row-count .ensures, known .some-processor, known .few)
 
 returns-2 : tie.Need-returns-2
 returns-2 c =

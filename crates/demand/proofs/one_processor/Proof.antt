@@ -5,9 +5,9 @@ use borrow.Author.Needs.{needs}
 use Rattle.rows.specs.declared.Refusal.{Refusal}
 use Rattle.verdict.specs.declared.Outcome.{Outcome}
 use Rattle.verdict.specs.declared.Answer.{Answer}
-use Rattle.verdict.specs.OneProcessor.{refusalOf, refusedAnswer, answered}
+use Rattle.verdict.specs.OneProcessor.{refusalOf, refusedAnswer, answered, Testable}
 use Rattle.verdict.specs.Inner.{Given}
-use Rattle.verdict.proofs.Checked.{Checked, checked}
+use Rattle.verdict.proofs.Checked.{checked}
 use Rattle.verdict.proofs.Promised.{answer-refused, answer-worked}
 use Rattle.demand.proofs.one_processor.Statement.{statement}
 use Rattle.demand.proofs.one_processor.Tie as tie
@@ -24,7 +24,7 @@ zero : (c : tie.Else1)
 zero c = rw (← gave (c .before .before)) (c .if1 .left)
 
 -- So every check held, and the words and the row count are what the work below is given.
-facts : (c : tie.Else1) → let p = c .before .before .before .before .before .args in Checked (p .words .now) (p .horizon)
+facts : (c : tie.Else1) → let p = c .before .before .before .before .before .args in Testable (p .words .now) (p .horizon)
 facts c = checked _ _ (zero c)
 
 given : (c : tie.After-row-count)

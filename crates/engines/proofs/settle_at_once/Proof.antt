@@ -13,7 +13,8 @@ use Rattle.model.proofs.Engines.{sweep-settled}
 use Rattle.rows.specs.Words.{sheetOf}
 use Rattle.rows.proofs.Words.{sheet-rows}
 use Rattle.refinement.specs.Refinement.{askOf}
-use Rattle.refinement.specs.Inner.{Ready, boundsSum}
+use Rattle.refinement.specs.Question.{Ready}
+use Rattle.refinement.specs.Inner.{boundsSum}
 use Rattle.refinement.proofs.Steps.{ask-regular, pass-on, reached, sum-lower}
 use Rattle.refinement.proofs.Descent.{descended-ready}
 use Rattle.engines.proofs.settle_at_once.Statement.{statement}

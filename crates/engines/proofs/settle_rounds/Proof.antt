@@ -8,7 +8,8 @@ use Rattle.model.proofs.Refine.{round-pass}
 use Rattle.model.proofs.Engines.{round-settled}
 use Rattle.rows.specs.Words.{sheetOf}
 use Rattle.refinement.specs.Refinement.{askOf}
-use Rattle.refinement.specs.Inner.{Ready, boundsSum}
+use Rattle.refinement.specs.Question.{Ready}
+use Rattle.refinement.specs.Inner.{boundsSum}
 use Rattle.refinement.proofs.Steps.{ask-regular, pass-on, reached}
 use Rattle.engines.proofs.settle_rounds.Statement.{statement}
 use Rattle.engines.proofs.settle_rounds.Tie as tie

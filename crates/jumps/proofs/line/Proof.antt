@@ -4,7 +4,7 @@ use Prim.Native.Nat.{_+_, _≤_}
 use native.Mathlib.Nat.{mul-le-mul}
 use denote.Ref.{now}
 use native.Mathlib.Omega.{arith}
-use Rattle.refinement.specs.Kept.{costAt, periodAt, aheadAt, lineAt}
+use Rattle.refinement.specs.Inner.Kept.{costAt, periodAt, aheadAt, lineAt}
 use Rattle.refinement.proofs.Chord.{slope-small}
 use Rattle.jumps.proofs.line.Statement.{statement}
 use Rattle.jumps.proofs.line.Tie as tie

@@ -7,7 +7,7 @@ use native.Mathlib.Nat.{mul-le-mul, le-trans}
 use lib.Dec.{leb}
 use denote.Ref.{now}
 use Rattle.laws.proofs.Sum.{total-within}
-use Rattle.refinement.specs.Kept.{lineAt}
+use Rattle.refinement.specs.Inner.Kept.{lineAt}
 use Rattle.refinement.proofs.Chord.{line-within-cap}
 use Rattle.jumps.proofs.line_excludes.Statement.{statement}
 use Rattle.jumps.proofs.line_excludes.Tie as tie

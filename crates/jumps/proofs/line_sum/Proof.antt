@@ -6,7 +6,7 @@ use Prim.Native.Nat.{_*_, _-_, _≤_}
 use denote.Ref.{now}
 use Rattle.laws.specs.Sum.{total}
 use Rattle.laws.proofs.Sum.{total-step}
-use Rattle.refinement.specs.Kept.{lineAt}
+use Rattle.refinement.specs.Inner.Kept.{lineAt}
 use Rattle.refinement.proofs.Chord.{line-within-cap}
 use Rattle.jumps.proofs.line_sum.Statement.{statement}
 use Rattle.jumps.proofs.line_sum.Tie as tie

@@ -16,7 +16,7 @@ use Rattle.model.proofs.Answer.{climb-found, climb-none}
 use Rattle.rows.specs.Words.{sheetOf, foundOf, boundOr}
 use Rattle.rows.proofs.Words.{sheet-rows}
 use Rattle.rows.proofs.Checks.{sound-row}
-use Rattle.refinement.specs.Kept.{Kept, Tried, keptSum, Met}
+use Rattle.refinement.specs.Inner.Kept.{Kept, Tried, keptSum, Met}
 use Rattle.refinement.proofs.Kept.{met-kept}
 use Rattle.refinement.proofs.Exclusion.{right-stands, climb-on}
 use Rattle.jumps.proofs.rta_quickly.Statement.{statement}

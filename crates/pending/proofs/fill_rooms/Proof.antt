@@ -10,7 +10,7 @@ use Rattle.laws.specs.Sum.{total}
 use Rattle.laws.specs.Fill.{listed}
 use Rattle.laws.proofs.Sum.{total-step}
 use Rattle.laws.proofs.Fill.{listed-none, listed-more}
-use Rattle.refinement.specs.Kept.{termAt, roomAt, keptSum}
+use Rattle.refinement.specs.Inner.Kept.{termAt, roomAt, keptSum}
 use Rattle.refinement.proofs.Exclusion.{term-within, top-small}
 use Rattle.pending.proofs.fill_rooms.Statement.{statement}
 use Rattle.pending.proofs.fill_rooms.Tie as tie

@@ -7,7 +7,7 @@ use Prim.Native.Nat.{ℕ, _+_, _*_, _-_, _≤_, _<_}
 use denote.Ref.{now}
 use Rattle.laws.specs.Sum.{total}
 use Rattle.laws.proofs.Sum.{total-step}
-use Rattle.refinement.specs.Kept.{costAt, periodAt, aheadAt, shareAt, riseAt, termFrom, termAt, KeptRow, KeptOf, keptSum}
+use Rattle.refinement.specs.Inner.Kept.{costAt, periodAt, aheadAt, shareAt, riseAt, termFrom, termAt, KeptRow, KeptOf, keptSum}
 use Rattle.refinement.proofs.Kept.{Holds, put-other, holds-term, holds-kept, holds-through, holds-self, kept-more, kept-settled, sum-more, sum-settled, whole-share}
 use Rattle.pending.proofs.keep_pending.Statement.{statement}
 use Rattle.pending.proofs.keep_pending.Tie as tie

@@ -13,7 +13,7 @@ use Rattle.rows.specs.Words.{rowCount, sheetOf}
 use Rattle.rows.proofs.Words.{deadline-word}
 use Rattle.rows.proofs.Checks.{sound-row}
 use Rattle.refinement.specs.Inner.{termOf, shareIn}
-use Rattle.refinement.specs.Kept.{termFrom, KeptNumbers, KeptOf, keptSum}
+use Rattle.refinement.specs.Inner.Kept.{termFrom, KeptNumbers, KeptOf, keptSum}
 use Rattle.refinement.proofs.Limits.{share-within}
 use Rattle.refinement.proofs.Sizes.{sizes}
 use Rattle.refinement.proofs.Kept.{kept-more, kept-settled, sum-more, sum-settled, small-share, term-numbers}

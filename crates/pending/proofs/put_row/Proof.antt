@@ -5,7 +5,7 @@ use Prim.Native.Nat.{_+_}
 use lib.ListN.{set, length-set}
 use denote.Ref.{now}
 use native.Mathlib.Omega.{arith}
-use Rattle.refinement.specs.Kept.{putRow}
+use Rattle.refinement.specs.Inner.Kept.{putRow}
 use Rattle.refinement.proofs.Kept.{put-length}
 use Rattle.pending.proofs.put_row.Statement.{statement}
 use Rattle.pending.proofs.put_row.Tie as tie

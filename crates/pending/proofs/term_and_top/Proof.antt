@@ -4,7 +4,7 @@ use native.Mathlib.Omega.{arith}
 use mathlib.Core.Path.{_∙_, ap₂}
 use Prim.Native.Nat.{_+_, _*_, _/_, _≤_, min}
 use denote.Ref.{now}
-use Rattle.refinement.specs.Kept.{costAt, periodAt, aheadAt, termAt, topAt}
+use Rattle.refinement.specs.Inner.Kept.{costAt, periodAt, aheadAt, termAt, topAt}
 use Rattle.refinement.proofs.Limits.{periods-within}
 use Rattle.pending.proofs.term_and_top.Statement.{statement}
 use Rattle.pending.proofs.term_and_top.Tie as tie

@@ -2,7 +2,7 @@
 use borrow.Author.Needs.{needs}
 use denote.Ref.{now}
 use mathlib.Core.Path.{_∙_, sym}
-use Rattle.refinement.specs.Ray.{Descended}
+use Rattle.refinement.specs.Inner.Ray.{Descended}
 use Rattle.refinement.specs.Refinement.{askOf}
 use Rattle.refinement.proofs.Steps.{ask-regular}
 use Rattle.refinement.proofs.Descent.{descended-none, descended-more, descended-length, descended-ready}

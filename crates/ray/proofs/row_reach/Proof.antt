@@ -8,7 +8,7 @@ use lib.ListN.{getD}
 use Rattle.rows.specs.Words.{sheetOf}
 use Rattle.rows.proofs.Words.{cost-word, deadline-word, sheet-rows}
 use Rattle.rows.proofs.Checks.{sound-row}
-use Rattle.refinement.specs.Ray.{Aimed}
+use Rattle.refinement.specs.Inner.Ray.{Aimed}
 use Rattle.refinement.proofs.Limits.{product-small}
 use Rattle.refinement.proofs.Ways.{reaches}
 use borrow.Author.Needs.{needs}

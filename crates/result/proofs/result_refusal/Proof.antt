@@ -4,7 +4,7 @@ use mathlib.Core.Path.{_≡_, ap}
 use Prim.Native.Nat.{ℕ, _+_, _*_, _/_}
 use lib.ListN.{length}
 use Rattle.rows.specs.Words.{rowCount}
-use Rattle.report.specs.Lines.{head, line, resultLength}
+use Rattle.report.specs.Lines.{resultHead, resultLine, resultLength}
 use Rattle.report.proofs.Entries.{chain}
 use native.Mathlib.Omega.{arith}
 use Rattle.result.proofs.result_refusal.Statement.{statement}
@@ -46,7 +46,7 @@ words-refusal-requires : tie.Need-words-refusal-requires
 words-refusal-requires c κs = search needs
 
 returns : tie.Need-returns
-unfolding resultLength head line
+unfolding resultLength resultHead resultLine
 returns c =
     let whole = c .before in
     let four = whole .before in

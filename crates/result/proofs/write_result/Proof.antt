@@ -10,9 +10,9 @@ use Rattle.rows.specs.Words.{rowCount}
 use Rattle.grammar.specs.declared.Written.{Written}
 use Rattle.grammar.specs.Sheets.{writeAnswer}
 use Rattle.grammar.proofs.Refusals.{write-refused, write-accepted}
-use Rattle.report.specs.Lines.{head, line, resultLength}
-use Rattle.report.specs.Result.{resultOf, resultRefusal, writeResult, resultAfter}
-use Rattle.report.proofs.Entries.{Writable, writable, refines, result-of-length}
+use Rattle.report.specs.Lines.{resultHead, resultLine, resultLength}
+use Rattle.report.specs.Result.{resultOf, resultRefusal, writeResult, resultAfter, Reportable}
+use Rattle.report.proofs.Entries.{reportable, refines, result-of-length}
 use native.Mathlib.Omega.{arith}
 use Rattle.laws.specs.Fill.{atFront}
 use Rattle.laws.proofs.Fill.{front-left, front-put}
@@ -46,8 +46,8 @@ passed : (c : tie.Else1) → let a = start (c .before) .args in
 passed c = sym (ap (λ (r : Refusal). r .number) (c .before .result-refusal .ensures)) ∙ c .if1 .left
 
 facts : (c : tie.Else1) → let a = start (c .before) .args in
-    Writable (a .words .now) (a .processors) (a .method) (length (a .out .now))
-facts c = writable _ _ _ _ (passed c)
+    Reportable (a .words .now) (a .processors) (a .method) (length (a .out .now))
+facts c = reportable _ _ _ _ (passed c)
 
 cast-rows : tie.Need-cast-rows
 cast-rows c = omega (arith, facts (c .before) .rows .at-most)
@@ -63,7 +63,7 @@ add-length c = omega (arith, facts (c .before) .rows .at-most)
 
 -- The result's length.
 size : (c : tie.After-row-count) → 7 + 11 * c .row-count .result ≡ resultLength (rowCount (start (c .before .before) .args .words .now))
-unfolding resultLength head line
+unfolding resultLength resultHead resultLine
 size c = ap (λ (n : ℕ). 7 + 11 * n) (c .row-count .ensures)
 
 slice-relend-prefix-put-refined : tie.Need-slice-relend-prefix-put-refined
@@ -77,7 +77,7 @@ slice-aggregate-put-refined : tie.Need-slice-aggregate-put-refined
 slice-aggregate-put-refined c = sym (part (c .before))
 
 put-refined-requires : tie.Need-put-refined-requires
-unfolding resultLength head line
+unfolding resultLength resultHead resultLine
 put-refined-requires c κs =
     (refines _ _ _ _ (facts (c .before .before)), c .before .row-count .ensures, part (c .before))
 

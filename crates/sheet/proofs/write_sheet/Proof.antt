@@ -16,7 +16,8 @@ use Rattle.grammar.specs.Grammar.{head, line, sheetLength}
 use Rattle.grammar.specs.Lines.{sheetBytes}
 use Rattle.grammar.specs.Sheets.{betweenRefusal, writeRefusal, writeAnswer, writeSheet, bytesAfter}
 use Rattle.grammar.proofs.Lines.{sheet-bytes-length}
-use Rattle.grammar.proofs.Refusals.{Passed, passed, write-refused, write-accepted}
+use Rattle.grammar.specs.Meaning.{RowsFit}
+use Rattle.grammar.proofs.Refusals.{passed, write-refused, write-accepted}
 use Rattle.sheet.proofs.write_sheet.Statement.{statement}
 use Rattle.sheet.proofs.write_sheet.Tie as tie
 
@@ -67,7 +68,7 @@ returns c =
 -- Where nothing was found the sheet passed its checks.
 checked : (c : tie.Else1)
     → let p = start (c .before .before) .args in
-    Passed (p .words .now) (p .processors) (length (p .out .now)) (sheetLength (rowCount (p .words .now)))
+    RowsFit (p .words .now) (p .processors) (length (p .out .now)) (sheetLength (rowCount (p .words .now)))
 unfolding writeRefusal
 checked c =
     let w = c .before .before in

@@ -2,7 +2,7 @@
 use native.Mathlib.Omega.{arith}
 use Prim.Native.Nat.{ℕ, _/_}
 use native.Mathlib.Nat.{le-trans, mul-le-mul, le-refl, div-mul-le-self, div-le-self}
-use Rattle.refinement.specs.Ray.{Lasts}
+use Rattle.refinement.specs.Inner.Ray.{Lasts}
 use borrow.Author.Needs.{needs}
 use Rattle.slopes.proofs.steps_within.Statement.{statement}
 use Rattle.slopes.proofs.steps_within.Tie as tie

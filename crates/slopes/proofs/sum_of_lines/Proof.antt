@@ -7,7 +7,7 @@ use Prim.Native.Nat.{_-_, _≤_}
 use Rattle.model.specs.Answer.{methodOf}
 use Rattle.rows.specs.Words.{sheetOf}
 use Rattle.rows.proofs.Words.{sheet-rows}
-use Rattle.refinement.specs.Ray.{addedAlong}
+use Rattle.refinement.specs.Inner.Ray.{addedAlong}
 use Rattle.refinement.proofs.Ways.{Summed, summed-none, summed-more, summed-all}
 use Rattle.slopes.proofs.sum_of_lines.Statement.{statement}
 use Rattle.slopes.proofs.sum_of_lines.Tie as tie

@@ -7,7 +7,7 @@ use native.Mathlib.Omega.{arith}
 use lib.ListN.{length, drop}
 use denote.Ref.{now}
 use Rattle.grammar.specs.declared.Written.{Written}
-use Rattle.report.specs.Lines.{head, line, resultLength}
+use Rattle.report.specs.Lines.{resultHead, resultLine, resultLength}
 use Rattle.report.specs.Result.{answerText}
 use Rattle.report.proofs.Answer.{longest-answer, whole-answer}
 use Rattle.terminal.proofs.put_answer.Statement.{statement}
@@ -20,7 +20,7 @@ cast-result : tie.Need-cast-result
 cast-result c = search needs
 
 returns : tie.Need-returns
-unfolding resultLength head line
+unfolding resultLength resultHead resultLine
 returns c =
     let s = c .before .before .before .before in
     let w = c .before .answer-sheet in

@@ -8,7 +8,7 @@ use denote.Ref.{now}
 use Rattle.rows.specs.Words.{rowCount, sheetOf, foundOf}
 use Rattle.rows.proofs.Words.{sheet-rows}
 use Rattle.refinement.specs.Refinement.{askOf}
-use Rattle.refinement.specs.Inner.{Ready}
+use Rattle.refinement.specs.Question.{Ready}
 use Rattle.refinement.proofs.ByMethod.{found-told}
 use Rattle.refinement.proofs.Steps.{Sweeping, turn-found, ready-lower, sweep-start, sweep-end, sweeping-held, sweeping-below, sweep-on, ask-regular}
 use native.Mathlib.Omega.{arith}

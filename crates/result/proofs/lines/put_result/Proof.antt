@@ -6,7 +6,7 @@ use mathlib.Core.List.{List, _++_}
 use lib.ListN.{length, drop, length-drop}
 use lib.Seq.{length-take-le}
 use Rattle.laws.proofs.Fill.{front-kept, front-filled}
-use Rattle.report.specs.Lines.{head, line, resultLength, firstLine}
+use Rattle.report.specs.Lines.{resultHead, resultLine, resultLength, resultFirstLine}
 use Rattle.report.specs.Inner.{linesFrom}
 use Rattle.report.proofs.Text.{line-length, rows-length}
 use native.Mathlib.Omega.{arith}
@@ -15,7 +15,7 @@ use Rattle.result.proofs.lines.put_result.Tie as tie
 
 -- Line one has room.
 room : (s : tie.Start) → 7 ≤ length (s .args .out .now)
-unfolding resultLength head
+unfolding resultLength resultHead
 room s = omega (arith, s .pre .2)
 
 slice-relend-prefix-put-line : tie.Need-slice-relend-prefix-put-line
@@ -50,12 +50,12 @@ part-put-rows-end : tie.Need-part-put-rows-end
 part-put-rows-end c = search needs
 
 put-rows-requires : tie.Need-put-rows-requires
-unfolding resultLength head
+unfolding resultLength resultHead
 put-rows-requires c κs =
     let f = c .before .before .before in
     let s = start f in
     let whole = f .put-line .last .0 ++ drop 7 (s .args .out .now) in
-    let rest : length whole - 7 ≡ line * s .args .rows = omega (arith, kept f, s .pre .2) in (
+    let rest : length whole - 7 ≡ resultLine * s .args .rows = omega (arith, kept f, s .pre .2) in (
       s .pre .0,
       s .pre .1,
       length-take-le (length whole - 7) (drop 7 whole) (rw (length-drop 7 whole) (omega arith)) ∙ rest,
@@ -65,12 +65,12 @@ same-length : tie.Need-same-length
 same-length c = search needs
 
 returns : tie.Need-returns
-unfolding resultLength head linesFrom firstLine
+unfolding resultLength resultHead linesFrom resultFirstLine
 returns c =
     let f = c .before .before .before .before .before .before in
     let s = start f in
     let put : f .put-line .last .0 ≡ _ = f .put-line .ensures in
-    front-filled (f .put-line .last .0) (c .before .before .put-rows .last .1 .1 .1 .0) (s .args .out .now) 7 (line * s .args .rows) (size f)
+    front-filled (f .put-line .last .0) (c .before .before .put-rows .last .1 .1 .1 .0) (s .args .out .now) 7 (resultLine * s .args .rows) (size f)
     (ap length (c .before .before .put-rows .ensures) ∙ rows-length (s .args .marks) (s .args .bounds .now) (s .args .rows)) (s .pre .2)
     ∙ ap₂ (λ (x y : List ℕ). x ++ y) (rw (f .before .all-marked .ensures) at (f .put-line .ensures)) (c .before .before .put-rows .ensures)
 

@@ -6,7 +6,7 @@ use mathlib.Core.List.{_++_}
 use lib.ListN.{length, drop, length-drop}
 use lib.Seq.{length-take-le}
 use Rattle.laws.specs.Fill.{joined}
-use Rattle.report.specs.Lines.{line, rowLine}
+use Rattle.report.specs.Lines.{resultLine, resultRowLine}
 use Rattle.report.specs.Inner.{lineFrom}
 use Rattle.report.proofs.Text.{row-line-length, rows-length}
 use native.Mathlib.Omega.{arith}
@@ -15,7 +15,7 @@ use Rattle.result.proofs.lines.put_rows.Statement.{statement}
 use Rattle.result.proofs.lines.put_rows.Tie as tie
 
 abbrev Inv-loop : tie.InvT-loop
-Inv-loop marks bounds rows out₀ row₀ out row = (row ≤ rows) × (out ≡ joined (lineFrom marks bounds) row ++ drop (line * row) out₀)
+Inv-loop marks bounds rows out₀ row₀ out row = (row ≤ rows) × (out ≡ joined (lineFrom marks bounds) row ++ drop (resultLine * row) out₀)
 
 abbrev μ-loop : tie.MeasureT-loop
 μ-loop marks bounds rows out₀ row₀ out row = rows - row
@@ -24,18 +24,18 @@ abbrev start : tie.At-loop Inv-loop μ-loop → tie.Start Inv-loop μ-loop
 start c = c .before .before .before
 
 kept : (c : tie.At-loop Inv-loop μ-loop) → length (c .loop .out) ≡ length (start c .args .out .now)
-unfolding line
+unfolding resultLine
 kept c =
     let a = start c .args in
-    blocks-kept (lineFrom (a .marks) (a .bounds .now)) (c .loop .row) (line * c .loop .row) (c .loop .out) (a .out .now)
+    blocks-kept (lineFrom (a .marks) (a .bounds .now)) (c .loop .row) (resultLine * c .loop .row) (c .loop .out) (a .out .now)
     (rows-length (a .marks) (a .bounds .now) (c .loop .row)) (omega (arith, start c .pre .2)) (c .loop .inv .1)
 
-room : (c : tie.In-loop Inv-loop μ-loop) → line * c .before .loop .row + line ≤ length (c .before .loop .out)
-unfolding line
+room : (c : tie.In-loop Inv-loop μ-loop) → resultLine * c .before .loop .row + resultLine ≤ length (c .before .loop .out)
+unfolding resultLine
 room c = omega (arith, kept (c .before), start (c .before) .pre .2)
 
 loop-holds : tie.Need-loop-holds Inv-loop μ-loop
-unfolding joined line
+unfolding joined resultLine
 loop-holds c = (omega arith, refl)
 
 cast-start : tie.Need-cast-start Inv-loop μ-loop
@@ -54,7 +54,7 @@ part-put-line-start : tie.Need-part-put-line-start Inv-loop μ-loop
 part-put-line-start c = search needs
 
 part-put-line-end : tie.Need-part-put-line-end Inv-loop μ-loop
-unfolding line
+unfolding resultLine
 part-put-line-end c = room c
 
 mark-of-requires : tie.Need-mark-of-requires Inv-loop μ-loop
@@ -70,12 +70,12 @@ shared-slice-read-put-line : tie.Need-shared-slice-read-put-line Inv-loop μ-loo
 shared-slice-read-put-line c = let s = start (c .before .before .before .before) in omega (arith, s .pre .1)
 
 put-line-requires : tie.Need-put-line-requires Inv-loop μ-loop
-unfolding line
+unfolding resultLine
 put-line-requires c κs =
     let q = c .before .before .before in
-    let at = line * q .before .loop .row in
-    let size : at + line - at ≡ line = omega arith in
-    rw size (length-take-le line (drop at (q .before .loop .out)) (rw length-drop (omega (arith, room q))))
+    let at = resultLine * q .before .loop .row in
+    let size : at + resultLine - at ≡ resultLine = omega arith in
+    rw size (length-take-le resultLine (drop at (q .before .loop .out)) (rw length-drop (omega (arith, room q))))
 
 add-row : tie.Need-add-row Inv-loop μ-loop
 add-row c = omega arith
@@ -84,7 +84,7 @@ loop-less : tie.Need-loop-less Inv-loop μ-loop
 loop-less c = omega arith
 
 loop-again : tie.Need-loop-again Inv-loop μ-loop
-unfolding line lineFrom rowLine
+unfolding resultLine lineFrom resultRowLine
 loop-again c =
     let q = c .before .before .before .before .before .before .before in
     let a = start q .args in
@@ -92,7 +92,7 @@ loop-again c =
     let put : c .before .before .put-line .last .0 ≡ lineFrom (a .marks) (a .bounds .now) row =
     rw (c .before .before .before .before .mark-of .ensures) at (c .before .before .put-line .ensures) in (
       omega arith,
-      block-joined (lineFrom (a .marks) (a .bounds .now)) row (line * row) line (line * row + line) (line * (row + 1)) _ (q .loop .out) (a .out .now)
+      block-joined (lineFrom (a .marks) (a .bounds .now)) row (resultLine * row) resultLine (resultLine * row + resultLine) (resultLine * (row + 1)) _ (q .loop .out) (a .out .now)
           (rows-length (a .marks) (a .bounds .now) row) (row-line-length (a .marks) (a .bounds .now) row) refl (omega arith) put (q .loop .inv .1),
     )
 
@@ -104,7 +104,7 @@ returns c =
     let s = start (c .before) in
     let q = c .before .loop in
     let all : q .row ≡ s .args .rows = omega arith in
-    blocks-fill (lineFrom (s .args .marks) (s .args .bounds .now)) (s .args .rows) (line * s .args .rows) (q .out) (s .args .out .now) (s .pre .2)
+    blocks-fill (lineFrom (s .args .marks) (s .args .bounds .now)) (s .args .rows) (resultLine * s .args .rows) (q .out) (s .args .out .now) (s .pre .2)
     (rw all at (q .inv .1))
 
 pub put-rows-spec : {M : Type 1} → statement M

@@ -100,5 +100,5 @@ pub record Met (s : Sheet) (R l : List ℕ) (row left settled x : ℕ) : Type 0 
   pub same : (z : ℕ) → x ≤ z → keptSum l left settled z (z - s .cost row + 1) ≡ others s row (rtaTerm s row R z)
 
 -- No number from x to below next solves the equation: what is added fills m times the cap.
-abbrev pub Passed : List ℕ → ℕ → ℕ → ℕ → ℕ → ℕ → ℕ → Type 0
-Passed l left settled m own x next = (z : ℕ) → x ≤ z → z < next → m * (z - own + 1) ≤ keptSum l left settled z (z - own + 1)
+abbrev pub Excluded : List ℕ → ℕ → ℕ → ℕ → ℕ → ℕ → ℕ → Type 0
+Excluded l left settled m own x next = (z : ℕ) → x ≤ z → z < next → m * (z - own + 1) ≤ keptSum l left settled z (z - own + 1)

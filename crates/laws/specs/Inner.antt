@@ -1,4 +1,4 @@
--- Falling lines.
+-- What only inner functions and laws cite: no user need believe it.
 use Prim.Native.Nat.{ℕ, _+_, _*_, _≤_, _<_}
 
 -- For so many steps a function lies under the line that begins at a value and falls by a slope a step.

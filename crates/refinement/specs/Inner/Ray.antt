@@ -5,14 +5,14 @@ use Prim.Native.Nat.{ℕ, _+_, _*_, _-_, _≤_, _<_, min}
 use lib.ListN.{length, getD}
 use Rattle.laws.specs.Sum.{unless}
 use Rattle.laws.specs.Fill.{Below}
-use Rattle.laws.specs.Line.{Under}
+use Rattle.laws.specs.Inner.{Under}
 use Rattle.model.specs.Sheet.{Sheet}
 use Rattle.model.specs.Interference.{others, bclTerm, rtaTerm}
 use Rattle.model.specs.Answer.{Method, BCL, RTA}
 use Rattle.model.specs.Refine.{Ask}
 use Rattle.model.specs.Inner.{along, Falls, Held}
 use Rattle.rows.specs.Words.{rowCount, sheetOf}
-use Rattle.refinement.specs.Inner.{Ready}
+use Rattle.refinement.specs.Question.{Ready}
 
 -- What another row adds at X, by either method, and the most that it may add.
 unfoldable pub termBy : Method → Sheet → ℕ → List ℕ → ℕ → ℕ → ℕ
