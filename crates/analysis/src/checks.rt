@@ -68,8 +68,9 @@ pub(crate) fn question_refusal(
 ) -> Refusal
     ensures { λ r. ⌜ r ≡ oneRowRefusal (now (words .entry)) processors method (now (bounds .entry)) row ⌝ }
 {
-    let between = first_of(processors_refusal(processors), method_refusal(method));
-    let first = words_refusal(words, between);
+    let four = processors_refusal(processors);
+    let five = method_refusal(method);
+    let first = words_refusal(words, first_of(four, five));
     let number = first.number;
     if number != 0 {
         return first;
@@ -91,6 +92,9 @@ pub(crate) fn question_refusal(
 pub(crate) fn refine_refusal(words: &[u32], processors: u32, method: u32, room: usize) -> Refusal
     ensures { λ r. ⌜ r ≡ refineRefusal (now (words .entry)) processors method room ⌝ }
 {
-    let rest = first_of(method_refusal(method), room_refusal(room, row_count(words)));
-    words_refusal(words, first_of(processors_refusal(processors), rest))
+    let five = method_refusal(method);
+    let seven = room_refusal(room, row_count(words));
+    let later = first_of(five, seven);
+    let four = processors_refusal(processors);
+    words_refusal(words, first_of(four, later))
 }

@@ -1,5 +1,5 @@
 -- Nothing is lost in numbers. A bound is at least its row's cost, so 0 is left for none; the cases of an outcome have different numbers.
-use mathlib.Core.Path.{_≡_, refl, ap}
+use mathlib.Core.Path.{_≡_, refl, _∙_, ap}
 use mathlib.Core.List.{List}
 use Prim.Native.Nat.{ℕ, _≤_}
 use native.Mathlib.Decide.{ℕ-discrete}
@@ -13,12 +13,14 @@ use Rattle.rows.proofs.Words.{found-some}
 use Rattle.rows.proofs.Checks.{sound-row}
 use Rattle.refinement.specs.declared.OneRow.{OneRow}
 use Rattle.refinement.specs.Question.{oneRowRefusal, oneRow}
-use Rattle.refinement.proofs.Question.{asked, one-row-answered, one-row-refused}
+use Rattle.refinement.proofs.Question.{asked, one-row-answered, one-row-refused, one-row-keeps}
 use Rattle.verdict.specs.declared.Answer.{Answer}
-use Rattle.verdict.proofs.Promised.{numbers-fix}
+use Rattle.verdict.proofs.Promised.{numbers-fix, refused-zeros, keeps}
 use Rattle.board.specs.declared.RowNumbers.{RowNumbers}
 use Rattle.board.specs.declared.OutcomeNumbers.{OutcomeNumbers}
 use Rattle.board.specs.Face.{rowInNumbers, outcomeInNumbers}
+use Rattle.verdict.specs.OneProcessor.{oneProcessor}
+use Rattle.laws.proofs.Choice.{one-answer}
 
 -- A bound that is answered is not 0.
 abbrev pub Positive : Found → Type 0
@@ -61,3 +63,23 @@ outcome-fixed r q same =
     let outcomes =
     numbers-fix (r .outcome) (q .outcome) (ap (λ (n : OutcomeNumbers). n .outcome) same) (ap (λ (n : OutcomeNumbers). n .length) same) in
     λ i. record { refusal = (same i) .refusal; place = (same i) .place; outcome = outcomes i }
+
+-- Refused, every number of the two answers but the refusal's own number and place is 0.
+pub row-zero : (words : List ℕ) (m method : ℕ) (R : List ℕ) (row : ℕ) → ((rowInNumbers (oneRow words m method R row)) .refusal ≡ 0 → ⊥)
+    → (rowInNumbers (oneRow words m method R row)) .bound ≡ 0
+unfolding rowInNumbers boundOr
+row-zero words m method R row one-holds = ap boundNumber (one-row-keeps words m method R row .nothing one-holds)
+
+pub outcome-zeros : (words : List ℕ) (h : ℕ) → ((outcomeInNumbers (oneProcessor words h)) .refusal ≡ 0 → ⊥)
+    → ((outcomeInNumbers (oneProcessor words h)) .outcome ≡ 0) × ((outcomeInNumbers (oneProcessor words h)) .length ≡ 0)
+unfolding outcomeInNumbers
+outcome-zeros words h one-holds = refused-zeros words h (λ zero. one-holds (keeps words h .number ∙ zero))
+
+-- Two results that the contracts of the two functions allow are equal.
+pub row-numbers-unique : (words : List ℕ) (m method : ℕ) (R : List ℕ) (row : ℕ) (first second : RowNumbers)
+    → first ≡ rowInNumbers (oneRow words m method R row) → second ≡ rowInNumbers (oneRow words m method R row) → first ≡ second
+row-numbers-unique words m method R row first second = one-answer
+
+pub outcome-numbers-unique : (words : List ℕ) (h : ℕ) (first second : OutcomeNumbers) → first ≡ outcomeInNumbers (oneProcessor words h)
+    → second ≡ outcomeInNumbers (oneProcessor words h) → first ≡ second
+outcome-numbers-unique words h first second = one-answer

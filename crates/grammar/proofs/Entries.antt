@@ -24,7 +24,7 @@ use Rattle.grammar.specs.Sheets.{betweenRefusal, formedRefusal, formRefu
 use Rattle.grammar.proofs.Meaning.{form-means, form-fixed}
 use Rattle.grammar.proofs.Refusals.{passed, passes, read-refused, read-accepted, write-accepted, form-wrong, form-right}
 use mathlib.Core.Logic.{_↔_}
-use Rattle.laws.proofs.Choice.{number-kept}
+use Rattle.laws.proofs.Choice.{number-kept, zero-where-refused}
 
 -- A row outside the sizes allowed is no refusal 1.
 rows-not-one : (row : Option ℕ) → (rowsRefusal row) .number ≡ 1 → ⊥
@@ -43,6 +43,19 @@ written-number refusal size = number-kept {A = Written} (λ r. r .refusal) (refu
 pub write-number : (words : List ℕ) (processors room : ℕ) → (writeSheet words processors room) .refusal ≡ (writeRefusal words processors room) .number
 unfolding writeSheet
 write-number words processors room = written-number (writeRefusal words processors room) (sheetLength (rowCount words))
+
+-- Refused, every number but the refusal's own number and place is 0.
+pub read-zeros : (bytes : List ℕ) (room : ℕ) → ((readSheet bytes room) .refusal ≡ 0 → ⊥)
+    → ((readSheet bytes room) .processors ≡ 0) × ((readSheet bytes room) .rows ≡ 0)
+unfolding readSheet readAnswer
+read-zeros bytes room one-holds = (
+  zero-where-refused {A = Read} (λ r. r .refusal) (λ r. r .processors) ((readRefusal bytes room) .number) _ _ refl refl one-holds,
+  zero-where-refused {A = Read} (λ r. r .refusal) (λ r. r .rows) ((readRefusal bytes room) .number) _ _ refl refl one-holds,
+)
+
+pub written-zero : (refusal : Refusal) (size : ℕ) → ((writeAnswer refusal size) .refusal ≡ 0 → ⊥) → (writeAnswer refusal size) .length ≡ 0
+unfolding writeAnswer
+written-zero refusal size = zero-where-refused {A = Written} (λ r. r .refusal) (λ r. r .length) (refusal .number) _ _ refl refl
 
 -- A reading that is not refused found all of it; and where all of it holds there is no refusal.
 formed-only : (later : Refusal) (r : Option ℕ) → (formRefusal r later) .number ≡ 0 → (r ≡ none) × (later .number ≡ 0)

@@ -91,3 +91,13 @@ number-kept {A} carried number refused worked carries zero = split (eqb number 0
     split : (b : Bool) → eqb number 0 ≡ b → carried (pick b worked refused) ≡ number
     split true is-zero = zero ∙ sym (eqb-true number 0 is-zero)
     split false not-zero = carries
+
+-- What is 0 in a refused answer is 0 wherever the number is not.
+pub zero-where-refused : {A : Type 0} (carried part : A → ℕ) (number : ℕ) (refused worked : A) → carried worked ≡ 0 → part refused ≡ 0
+    → (carried (unlessRefused number refused worked) ≡ 0 → ⊥) → part (unlessRefused number refused worked) ≡ 0
+unfolding unlessRefused
+zero-where-refused {A} carried part number refused worked worked-zero part-zero = split (eqb number 0)
+  where
+    split : (b : Bool) → (carried (pick b worked refused) ≡ 0 → ⊥) → part (pick b worked refused) ≡ 0
+    split true one-holds = absurd (one-holds worked-zero)
+    split false one-holds = part-zero

@@ -2,7 +2,7 @@
 use mathlib.Core.Path.{_≡_, refl, sym, _∙_, ap, ap₂}
 use mathlib.Core.Bool.{Bool, true, false}
 use mathlib.Core.List.{List, _++_}
-use Prim.Native.Nat.{ℕ, _<_}
+use Prim.Native.Nat.{ℕ, _<_, _≤_}
 use native.Mathlib.Omega.{arith}
 use lib.ListN.{length, getD, take, drop, List·getD-append, take-append-drop}
 use lib.Seq.{take-at, drop-at}
@@ -29,6 +29,7 @@ use Rattle.refinement.specs.declared.OneRow.{OneRow}
 use Rattle.refinement.specs.Question.{oneRow, Ready, Askable}
 use Rattle.refinement.proofs.Question.{askable, one-row-answered}
 use Rattle.refinement.proofs.Steps.{ask-regular}
+use Rattle.rows.specs.Checks.{SoundRows}
 
 -- Both engines give the same final bounds for any words.
 same-final : (words : List ℕ) (m method : ℕ) → finalBounds rounds words m method ≡ finalBounds atOnce words m method
@@ -45,6 +46,23 @@ entries-agree words m method out =
 final-largest : (words : List ℕ) (m method : ℕ) → Largest (sheetOf words) (askOf words m method) (rounds (sheetOf words) (askOf words m method))
 unfolding askOf
 final-largest words m method = engines-agree (methodOf method) (sheetOf words) m .largest
+
+-- Every final bound lies from its row's cost to its deadline.
+final-ready : (words : List ℕ) (m method : ℕ) → SoundRows words → Ready words (rounds (sheetOf words) (askOf words m method))
+final-ready words m method sound =
+    let s = sheetOf words in
+    let ask = askOf words m method in
+    let consistent = final-largest words m method .consistent in
+    record {
+      rows = sound;
+      one-each = rounds-length words m method;
+      in-range = λ k h.
+          let sized = sound-row words sound k (rw (← sheet-rows words) h) in
+          rw (consistent .by-turn k h) (
+            omega (arith, sized .by-deadline, turn-from-cost s ask (ask-regular words m method) k (rounds s ask)),
+            turn-by-deadline s ask (ask-regular words m method) k (rounds s ask),
+          );
+    }
 
 module _ (words : List ℕ) (m method : ℕ) (out : List ℕ) (passed : (refineRefusal words m method (length out)) .number ≡ 0) where
   -- What is answered and written where nothing is refused.
@@ -102,24 +120,6 @@ module _ (words : List ℕ) (m method : ℕ) (out : List ℕ) (passed : (refineR
       not-set true zero = absurd (omega arith)
       not-set false zero = refl
 
-  -- Every final bound lies from its row's cost to its deadline.
-  final-ready : Ready words (rounds (sheetOf words) (askOf words m method))
-  final-ready =
-      let s = sheetOf words in
-      let ask = askOf words m method in
-      let rows = refining words m method (length out) passed .rows in
-      let consistent = final-largest words m method .consistent in
-      record {
-        rows = rows;
-        one-each = rounds-length words m method;
-        in-range = λ k h.
-            let sized = sound-row words rows k (rw (← sheet-rows words) h) in
-            rw (consistent .by-turn k h) (
-              omega (arith, sized .by-deadline, turn-from-cost s ask (ask-regular words m method) k (rounds s ask)),
-              turn-by-deadline s ask (ask-regular words m method) k (rounds s ask),
-            );
-      }
-
   -- The answer under the final bounds, by whether there is one.
   told-again : (o : Option ℕ) (deadline bound : ℕ) → bound ≡ orElse o deadline → foundOf o ≡ pick (eqb (bit (isSome o)) 1) (At bound) Nowhere
   unfolding foundOf
@@ -134,7 +134,7 @@ module _ (words : List ℕ) (m method : ℕ) (out : List ℕ) (passed : (refineR
       let ask = askOf words m method in
       let facts = refining words m method (length out) passed in
       let asks : Askable words m method (rounds s ask) k =
-      record { ready = final-ready; there = h; some-processor = facts .some-processor; few = facts .few; by-method = facts .by-method } in
+      record { ready = final-ready words m method (facts .rows); there = h; some-processor = facts .some-processor; few = facts .few; by-method = facts .by-method } in
       let zero = ap (λ (r : Refusal). r .number) (askable words m method (rounds s ask) k asks) in
       let bound : getD (refinedWords rounds words m method out) k 0 ≡ turn s ask k (rounds s ask) =
       word-at k h ∙ final-largest words m method .consistent .by-turn k (rw sheet-rows h) in
@@ -217,3 +217,11 @@ rta-no-worse engine second alike alike-too words m out other rta-zero bcl-zero =
       alike-words second alike-too words m 0 other,
     )
     (rounds-no-worse words m out other (sym (refined-number engine words m 1 out) ∙ rta-zero) (sym (refined-number second words m 0 other) ∙ bcl-zero))
+
+-- The final bounds of sound rows are at most a million.
+pub final-small : (words : List ℕ) (m method : ℕ) → SoundRows words
+    → (k : ℕ) → k < rowCount words → getD (finalBounds atOnce words m method) k 0 ≤ 1_000_000
+unfolding finalBounds
+final-small words m method sound k h =
+    let sized = sound-row words sound k h in
+    rw (at-once-alike words m method) (omega (arith, final-ready words m method sound .in-range k (rw sheet-rows h) .1))

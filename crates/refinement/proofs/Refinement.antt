@@ -4,7 +4,7 @@ use mathlib.Core.Path.{_≡_, sym, _∙_, ap, refl}
 use mathlib.Core.List.{List, _++_}
 use Prim.Native.Nat.{ℕ, _≤_}
 use lib.ListN.{length, drop}
-use Rattle.laws.proofs.Choice.{not-refused, is-refused, one-answer, number-kept}
+use Rattle.laws.proofs.Choice.{not-refused, is-refused, one-answer, number-kept, zero-where-refused}
 use Rattle.laws.proofs.Fill.{listed-length, listed-at, front-left, front-put}
 use Rattle.model.specs.Refine.{deadlines, rounds, atOnce, marks}
 use Rattle.model.proofs.Engines.{rounds-largest, at-once-largest}
@@ -99,6 +99,11 @@ module _ (engine : Engine) (words : List ℕ) (m method : ℕ) (out : List ℕ) 
     λ zero. refining words m method (length out) (sym refined-number ∙ zero),
     λ facts. refined-number ∙ ap (λ (f : Refusal). f .number) (refinable words m method (length out) facts),
   )
+
+  -- Refused, the marks are 0.
+  pub refined-zero : ((refined engine words m method (length out)) .refusal ≡ 0 → ⊥) → (refined engine words m method (length out)) .marks ≡ 0
+  unfolding refined
+  refined-zero = zero-where-refused {A = Refined} (λ r. r .refusal) (λ r. r .marks) ((refineRefusal words m method (length out)) .number) _ _ refl refl
 
   -- Two results that a contract allows are equal, and so are two written lists.
   pub refined-unique : (first second : Refined) → first ≡ refined engine words m method (length out)

@@ -12,7 +12,7 @@ use Rattle.laws.proofs.Fill.{front-put}
 use Rattle.rows.specs.declared.Refusal.{Refusal}
 use Rattle.rows.specs.Words.{rowCount}
 use Rattle.rows.specs.Checks.{refused, methodRefusal, roomRefusal}
-use Rattle.rows.proofs.Checks.{allowed-processors, enough-room}
+use Rattle.rows.proofs.Checks.{allowed-processors, enough-room, room-enough}
 use Rattle.grammar.specs.declared.Read.{Read}
 use Rattle.grammar.specs.declared.Written.{Written}
 use Rattle.grammar.specs.Grammar.{processorsWritten, rowsWritten}
@@ -20,11 +20,12 @@ use Rattle.grammar.specs.Lines.{wordsWritten}
 use Rattle.grammar.specs.Sheets.{readRefusal, readSheet, wordsAfter, writeAnswer}
 use Rattle.grammar.proofs.Refusals.{read-refused, words-length, write-accepted}
 use Rattle.grammar.specs.Meaning.{Readable}
-use Rattle.grammar.proofs.Entries.{read-number, read-found, read-answers, read-leaves}
+use Rattle.grammar.proofs.Entries.{read-number, read-found, read-answers, read-leaves, written-number}
 use Rattle.report.specs.Lines.{resultHead, resultLine, resultLength, refusalLine}
 use Rattle.report.specs.Result.{resultOf, writeResult, resultAfter, mostWords, answerText, answerRefusal, answerSheet, answerAfter}
 use Rattle.report.proofs.Text.{refusal-length}
 use Rattle.report.proofs.Entries.{room-decides, result-of-length}
+use mathlib.Core.Logic.{_↔_}
 
 -- Method 1 is not refused.
 method-one : methodRefusal 1 ≡ 0
@@ -114,6 +115,14 @@ whole-answer bytes out enough =
       sym (write-accepted (answerRefusal bytes (length out)) (length (answerText bytes)) room),
       sym (front-put ((answerRefusal bytes (length out)) .number) (answerText bytes) out room),
     )
+
+-- An answer is refused only where it does not fit.
+pub answer-not-refused : (bytes : List ℕ) (room : ℕ) → ((answerSheet bytes room) .refusal ≡ 0) ↔ (length (answerText bytes) ≤ room)
+unfolding answerSheet answerRefusal
+answer-not-refused bytes room = (
+  λ zero. room-enough room (length (answerText bytes)) (sym (written-number (answerRefusal bytes room) (length (answerText bytes))) ∙ zero),
+  λ fits. written-number (answerRefusal bytes room) (length (answerText bytes)) ∙ enough-room room (length (answerText bytes)) fits,
+)
 
 -- Two results that the contracts allow are equal, and so are two written texts.
 pub write-result-unique : (words : List ℕ) (m method room : ℕ) (first second : Written) → first ≡ writeResult words m method room

@@ -14,12 +14,13 @@ use Rattle.refinement.specs.declared.Refined.{Refined}
 use Rattle.refinement.specs.Refinement.{askOf, refineRefusal, finalBounds, refined, refinedWords}
 use Rattle.refinement.proofs.Refinement.{at-once-length, refine-answered, refinable}
 use Rattle.report.specs.Lines.{resultLength}
-use Rattle.report.specs.Result.{resultOf, resultRefusal, Reportable, writeResult}
+use Rattle.report.specs.Result.{resultOf, resultRefusal, Reportable, writeResult, resultAfter}
 use Rattle.report.specs.Inner.{linesFrom}
 use Rattle.report.proofs.Text.{text-is, result-length}
 use mathlib.Core.Logic.{_↔_}
 use Rattle.model.proofs.Sheet.{allowed-processors, processors-allowed}
 use Rattle.grammar.proofs.Entries.{written-number}
+use Rattle.laws.proofs.Fill.{front-put}
 
 -- The refusal, from what each call gave.
 pub chain : (words : List ℕ) (m method room : ℕ) {five need seven rest four whole : ℕ} {r : Refusal} → five ≡ methodRefusal method
@@ -82,6 +83,14 @@ pub result-of-length : (words : List ℕ) (m method : ℕ) → length (resultOf 
 unfolding resultOf
 result-of-length words m method =
     result-length (sheetOf words) (askOf words m method) (finalBounds atOnce words m method) ∙ ap resultLength (sheet-rows words)
+
+-- What it leaves where it is not refused: the sheet in front of what stood behind it.
+pub result-leaves : (words : List ℕ) (m method : ℕ) (out : List ℕ) → Reportable words m method (length out)
+    → resultAfter words m method out ≡ resultOf words m method ++ drop (length (resultOf words m method)) out
+unfolding resultAfter writeResult
+result-leaves words m method out facts =
+    let zero = sym (written-number (resultRefusal words m method (length out)) (resultLength (rowCount words))) ∙ result-not-refused words m method (length out) .1 facts in
+    sym (front-put ((resultRefusal words m method (length out)) .number) (resultOf words m method) out zero)
 
 module _ (words : List ℕ) (m method : ℕ) (out : List ℕ) (passed : (refineRefusal words m method (length out)) .number ≡ 0) (r : Refined)
     (after : List ℕ) (answered : r ≡ refined atOnce words m method (length out)) (written : after ≡ refinedWords atOnce words m method out) where

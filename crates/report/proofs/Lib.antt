@@ -1,3 +1,4 @@
 pub mod Text
 pub mod Entries
 pub mod Answer
+pub mod ReadBack

@@ -1,11 +1,11 @@
 -- The result sheet of rows, and the whole answer to a sheet's bytes: what is returned and what is left in lent space, refused or not.
 use mathlib.Core.Path.{_≡_}
 use mathlib.Core.List.{List}
-use Prim.Native.Nat.{ℕ, _≤_}
-use lib.ListN.{length}
+use Prim.Native.Nat.{ℕ, _≤_, _+_, _*_, _<_}
+use lib.ListN.{length, getD}
 use Rattle.laws.specs.Choice.{unlessRefused}
 use Rattle.laws.specs.Fill.{atFront}
-use Rattle.model.specs.Refine.{atOnce}
+use Rattle.model.specs.Refine.{atOnce, Ask, marked, accepted}
 use Rattle.rows.specs.declared.Refusal.{Refusal}
 use Rattle.rows.specs.Words.{rowCount, sheetOf}
 use Rattle.rows.specs.Checks.{refused, processorsRefusal, methodRefusal, roomRefusal, firstOf, wordsRefusal, SoundRows}
@@ -14,7 +14,10 @@ use Rattle.grammar.specs.declared.Written.{Written}
 use Rattle.grammar.specs.Grammar.{processorsWritten}
 use Rattle.grammar.specs.Lines.{wordsWritten}
 use Rattle.grammar.specs.Sheets.{readRefusal, writeAnswer}
-use Rattle.report.specs.Lines.{resultLength, resultBytes, refusalLine}
+use Rattle.report.specs.Lines.{resultLength, resultBytes, refusalLine, resultHead, resultLine}
+use Rattle.laws.specs.Bits.{bit}
+use Rattle.model.specs.Sheet.{Sheet}
+use Rattle.digits.specs.Digits.{number}
 
 -- The result sheet of rows: marks and bounds are worked out by the refinement, at once.
 unfoldable pub resultOf : List ℕ → ℕ → ℕ → List ℕ
@@ -42,6 +45,13 @@ pub record Reportable (words : List ℕ) (processors method room : ℕ) : Type 0
   pub few : processors ≤ 64
   pub by-method : method ≤ 1
   pub enough : resultLength (rowCount words) ≤ room
+
+-- What a result sheet says, read back by its digits: accepted, the row count, and each row's mark and bound.
+pub record SaysBack (s : Sheet) (ask : Ask) (R bytes : List ℕ) : Type 0 where
+  pub accepted-back : number bytes 2 2 ≡ bit (accepted s ask R)
+  pub count-back : number bytes 4 2 ≡ s .rows
+  pub mark-back : (k : ℕ) → k < s .rows → number bytes (resultHead + k * resultLine + 2) 2 ≡ bit (marked ask R k)
+  pub bound-back : (k : ℕ) → k < s .rows → number bytes (resultHead + k * resultLine + 4) 6 ≡ getD R k 0
 
 -- The words that the largest allowed sheet has: 64 rows of three.
 unfoldable pub mostWords : ℕ

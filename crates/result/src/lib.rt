@@ -26,8 +26,11 @@ fn result_refusal(words: &[u32], processors: u32, method: u32, room: usize) -> R
     ensures { λ r. ⌜ r ≡ resultRefusal (now (words .entry)) processors method room ⌝ }
 {
     let need = lines::HEAD + lines::LINE * row_count(words);
-    let rest = first_of(method_refusal(method), room_refusal(room, need));
-    words_refusal(words, first_of(processors_refusal(processors), rest))
+    let five = method_refusal(method);
+    let seven = room_refusal(room, need);
+    let later = first_of(five, seven);
+    let four = processors_refusal(processors);
+    words_refusal(words, first_of(four, later))
 }
 
 // Refines the rows at once, and writes their result sheet.

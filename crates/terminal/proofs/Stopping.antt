@@ -1,12 +1,12 @@
 -- Reading may stop anywhere past the longest sheet: an input that goes on has broken the form before, at a place that was read, so that it
 -- and what was read get the same line.
 use mathlib.Core.Path.{_≡_, refl, sym, _∙_, ap}
-use mathlib.Core.List.{List}
+use mathlib.Core.List.{List, _++_}
 use mathlib.Core.Logic.{inl, inr, ⊎-elim}
 use mathlib.Core.Option.{Option, none, some}
 use Prim.Native.Nat.{ℕ, _+_, _≤_, _<_}
 use native.Mathlib.Omega.{arith}
-use lib.ListN.{length, getD, take}
+use lib.ListN.{length, getD, take, drop, length-append}
 use lib.Seq.{take-all, length-take-le, getD-take}
 use Rattle.laws.proofs.Choice.{is-refused}
 use Rattle.laws.proofs.Order.{below-or-from}
@@ -79,3 +79,13 @@ stopped-answer bytes most past =
     ⊎-elim (λ (longer : most < length bytes). same-answer bytes most past longer (firstWrong bytes) refl (form-means bytes))
     (λ (all : length bytes ≤ most). ap answerText (take-all most bytes all))
     (below-or-from most (length bytes))
+
+-- What was read is a whole input too, and its answer is no longer than the output in which it stands.
+pub read-fits : (sheet out last : List ℕ) (count r : ℕ) → length sheet ≡ 8192 → count ≤ 8192
+    → ((input : List ℕ) → take 8192 input ≡ take count sheet → (r ≡ length (answerText input)) × (last ≡ answerText input ++ drop r out))
+    → r ≤ length last
+read-fits sheet out last count r full read answers =
+    let whole : take 8192 (take count sheet) ≡ take count sheet =
+    take-all 8192 (take count sheet) (omega (arith, length-take-le count sheet (omega arith))) in
+    let told = answers (take count sheet) whole in
+    omega (arith, told .0, ap length (told .1), length-append (answerText (take count sheet)) (drop r out))
