@@ -1,66 +1,87 @@
-//! The comparison tested: every wrong second program must differ from the proved one within the gate's checks.
+//! The comparison tested: every wrong second program must be caught by the checks that it is there for, within the gate's number
+//! of them, and every case worked by hand must tell a wrong program from the right one.
 
 use crate::groups::Group;
+use crate::near;
 use crate::rounds::{checks_in_a_round, group_round, how_many, smallest, Found};
-use crate::run::threads;
 use crate::show::call_shown;
-use crate::wrong::{wrong_programs, Wrong};
-use second::program::Program;
-use std::sync::atomic::{AtomicUsize, Ordering};
-use std::sync::Mutex;
+use crate::threads::of_each;
+use crate::trial::Trial;
+use crate::worked;
+use crate::wrong::{wrong_programs, By, Wrong};
 use std::time::Duration;
 
 /// How long a call that catches a wrong program is shrunk.
-const SHRINKING: Duration = Duration::from_millis(500);
+const SHRINKING: Duration = Duration::from_millis(150);
 
-/// The first check that catches a wrong program, if one does.
-fn caught(program: &Program, groups: &[Group], rounds: u64, seed: u64) -> Option<Found> {
-    let in_round = |round: u64| {
-        (0..groups.len()).find_map(|place| group_round(program, groups, place, seed, round))
-    };
-    (0..rounds).find_map(in_round)
+/// All groups of the comparison, in how many rounds, and from which seed.
+struct Run<'a> {
+    groups: &'a [Group],
+    rounds: u64,
+    seed: u64,
 }
 
-/// How a wrong program was caught, in words; and whether it was.
-fn told(wrong: &Wrong, groups: &[Group], rounds: u64, seed: u64) -> (bool, String) {
-    match caught(&wrong.program, groups, rounds, seed) {
-        None => (false, format!("NOT CAUGHT: a program that {}", wrong.slip)),
-        Some(found) => {
-            let number = found.round * checks_in_a_round(groups) + found.before + 1;
-            let (call, _) = smallest(&wrong.program, groups, &found, SHRINKING);
-            (
-                true,
-                format!(
-                    "call {number} catches a program that {}\n  {}",
-                    wrong.slip,
-                    call_shown(&call)
-                ),
-            )
+impl Run<'_> {
+    /// The first check that catches a wrong program, if one does, among the groups that are about a subject.
+    fn caught(&self, trial: Trial, is_meant: impl Fn(&Group) -> bool) -> Option<Found> {
+        let places = || (0..self.groups.len()).filter(|&place| is_meant(&self.groups[place]));
+        let in_round = |round: u64| {
+            places().find_map(|place| group_round(trial, self.groups, place, self.seed, round))
+        };
+        (0..self.rounds).find_map(in_round)
+    }
+
+    /// The check that catches a wrong program in words: which it is, and its smallest call.
+    fn caught_told(&self, wrong: &Wrong, is_meant: impl Fn(&Group) -> bool) -> Option<String> {
+        let trial = Trial::Wrong(&wrong.program);
+        let found = self.caught(trial, is_meant)?;
+        let number = found.round * checks_in_a_round(self.groups) + found.before + 1;
+        let (call, _) = smallest(trial, self.groups, &found, SHRINKING);
+        let group = self.groups[found.group].name();
+        Some(format!("check {number}, {group}\n  {}", call_shown(&call)))
+    }
+
+    /// How a wrong program is caught by the checks that it is there for, in words, if it is.
+    fn how_caught(&self, wrong: &Wrong) -> Option<String> {
+        match &wrong.by {
+            By::Answers => self.caught_told(wrong, Group::holds_answers),
+            By::Relation(name) => self.caught_told(wrong, |group| group.is_by(name)),
+            By::NearTexts(entry) => near::first_difference(&wrong.program, *entry),
+            By::Case(case) => case.second_wrong(&wrong.program),
+        }
+    }
+
+    /// Whether a wrong program is caught, and how, in words.
+    fn told(&self, wrong: &Wrong) -> (bool, String) {
+        match self.how_caught(wrong) {
+            None => (false, format!("NOT CAUGHT: a program that {}", wrong.slip)),
+            Some(how) => (true, format!("a program that {} is caught: {how}", wrong.slip)),
         }
     }
 }
 
-/// Tries every wrong program, tells at which call it is caught and by which smallest call, and returns how many were and were not.
+/// Whether each case worked by hand tells some wrong program from the right one, and how many, in words.
+fn worked_told(programs: &[Wrong]) -> Vec<(bool, String)> {
+    of_each(&worked::cases(), |case| {
+        let told_apart = |wrong: &&Wrong| case.second_wrong(&wrong.program).is_some();
+        let count = programs.iter().filter(told_apart).count();
+        let line = format!("{} tells {count} wrong programs", case.name);
+        (count > 0, line)
+    })
+}
+
+/// Tries every wrong program, tells by which check it is caught and by which smallest call, and returns how many were and were not;
+/// cases worked by hand count among them.
 pub fn catch_all(groups: &[Group], cases: u64, seed: u64) -> (usize, usize) {
-    let rounds = how_many(groups, cases);
-    let programs = wrong_programs();
-    let next = AtomicUsize::new(0);
-    let told_of = Mutex::new(vec![(false, String::new()); programs.len()]);
-    let take = || loop {
-        let index = next.fetch_add(1, Ordering::Relaxed);
-        let Some(wrong) = programs.get(index) else {
-            return;
-        };
-        let told = told(wrong, groups, rounds, seed);
-        told_of.lock().unwrap()[index] = told;
+    let run = Run {
+        groups,
+        rounds: how_many(groups, cases),
+        seed,
     };
-    std::thread::scope(|scope| {
-        for _ in 0..threads() {
-            scope.spawn(take);
-        }
-    });
-    let told_of = told_of.into_inner().unwrap_or_default();
-    told_of.iter().for_each(|(_, line)| println!("{line}"));
-    let passed = told_of.iter().filter(|(is_caught, _)| *is_caught).count();
-    (passed, told_of.len() - passed)
+    let programs = wrong_programs();
+    let told = of_each(&programs, |wrong| run.told(wrong));
+    let told = [told, worked_told(&programs)].concat();
+    told.iter().for_each(|(_, line)| println!("{line}"));
+    let passed = told.iter().filter(|(is_caught, _)| *is_caught).count();
+    (passed, told.len() - passed)
 }

@@ -27,7 +27,7 @@ pub fn compared(program: &Program, call: &Call, random: &mut Random) -> Compared
 }
 
 /// The lent output as an answer leaves it: the answer at the front, everything behind it as it was.
-fn due_contents(before: &[u64], second: &Answer) -> Vec<u64> {
+pub fn due_contents(before: &[u64], second: &Answer) -> Vec<u64> {
     let words = second.words.iter().map(|&word| word as u64);
     let text = second.text.iter().map(|&byte| byte as u64);
     let front: Vec<u64> = words.chain(text).collect();

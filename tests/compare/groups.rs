@@ -5,8 +5,8 @@ use crate::difference::compared;
 use crate::relations::{Relation, RELATIONS};
 use crate::show::difference_shown;
 use crate::spoil::spoiled;
+use crate::trial::Trial;
 use second::call::{Call, Entry};
-use second::program::Program;
 use second::random::Random;
 use sheets::{Kind, KINDS};
 
@@ -62,7 +62,8 @@ fn checks_of_kind(kind: Kind) -> usize {
         Kind::Slow => 8,
         Kind::Edges | Kind::Exponential => 5,
         Kind::Light | Kind::Heavy | Kind::Large => 3,
-        Kind::Far => 1,
+        Kind::Brimming => 2,
+        Kind::Far | Kind::Late | Kind::Crowd | Kind::Uneven => 1,
     }
 }
 
@@ -94,21 +95,20 @@ pub fn answer_groups() -> Vec<Group> {
     groups
 }
 
-/// The groups that hold answers of the proved program against each other.
+/// The groups that hold answers by a relation against each other.
+pub fn groups_of(relation: Relation) -> Vec<Group> {
+    let group = |&kind: &Kind| Group {
+        entry: Entry::RefineAtOnce,
+        kind,
+        look: Look::Between(relation),
+        checks: relation.times * checks_of_kind(kind).div_ceil(4),
+    };
+    relation.kinds.iter().map(group).collect()
+}
+
+/// The groups that hold answers against each other, by every relation.
 pub fn relation_groups() -> Vec<Group> {
-    let mut groups = Vec::new();
-    for relation in RELATIONS {
-        for &kind in relation.kinds {
-            let checks = relation.times * checks_of_kind(kind).div_ceil(4);
-            groups.push(Group {
-                entry: Entry::RefineAtOnce,
-                kind,
-                look: Look::Between(relation),
-                checks,
-            });
-        }
-    }
-    groups
+    RELATIONS.into_iter().flat_map(groups_of).collect()
 }
 
 impl Group {
@@ -121,12 +121,22 @@ impl Group {
         }
     }
 
-    /// What is wrong with a call, if something is: a difference from a second program, or a relation broken.
-    pub fn trouble(&self, program: &Program, call: &Call, random: &mut Random) -> Option<String> {
+    /// What is wrong with a call, if something is: a difference between the two programs, or a relation broken.
+    pub fn trouble(&self, trial: Trial, call: &Call, random: &mut Random) -> Option<String> {
         match self.look {
-            Look::Answer { .. } => difference_shown(&compared(program, call, random)),
-            Look::Between(relation) => (relation.broken)(call, random),
+            Look::Answer { .. } => difference_shown(&compared(trial.second(), call, random)),
+            Look::Between(relation) => (relation.broken)(trial, call, random),
         }
+    }
+
+    /// Whether the group holds answers against the second program's.
+    pub fn holds_answers(&self) -> bool {
+        matches!(self.look, Look::Answer { .. })
+    }
+
+    /// Whether the group holds answers against each other by the relation of a name.
+    pub fn is_by(&self, name: &str) -> bool {
+        matches!(self.look, Look::Between(relation) if relation.name == name)
     }
 
     /// What the group is about: an entry, or a relation.

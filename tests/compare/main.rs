@@ -4,9 +4,11 @@
 //! compare --wrong [--cases N] [--seed S]  every wrong second program must be caught within as many
 
 mod calls;
+mod cases;
 mod catch;
 mod damage;
 mod difference;
+mod far;
 mod groups;
 mod near;
 mod relations;
@@ -17,11 +19,16 @@ mod shrink;
 mod sightings;
 mod slow;
 mod spoil;
+mod threads;
+mod trial;
+mod widen;
 mod worked;
 mod wrong;
 
+use groups::Group;
 use guarded::CALLS;
 use second::call::Entry;
+use second::program::DOCUMENT;
 use second::random::Random;
 use std::process::ExitCode;
 use std::sync::atomic::Ordering;
@@ -72,19 +79,19 @@ fn one_group(what: &str, found: Vec<String>) -> (usize, usize) {
     }
 }
 
-/// Everything compared: the numbers worked by hand, every text near a sheet's, random calls, and that all kinds of answer were
-/// met and slow sheets are slow.
-fn compare_all(cases: u64, seed: u64) -> (usize, usize) {
-    let all = [groups::answer_groups(), groups::relation_groups()].concat();
-    let near = |entry: Entry| near::first_difference(entry).into_iter().collect();
+/// Everything compared: the numbers worked by hand, the cases far out, every text near a sheet's, random calls, and that all kinds
+/// of answer were met and slow sheets are slow.
+fn compare_all(all: &[Group], cases: u64, seed: u64) -> (usize, usize) {
+    let near = |entry: Entry| near::first_difference(&DOCUMENT, entry).into_iter().collect();
     let parts = [
         one_group(
             "WORKED BY HAND",
             worked::wrong_cases(&mut Random::of([seed])),
         ),
+        one_group("FAR OUT", far::wrong_cases(seed)),
         one_group("DIFFERENCE", near(Entry::ReadSheet)),
         one_group("DIFFERENCE", near(Entry::AnswerSheet)),
-        run::compare(&all, rounds::how_many(&all, cases), seed),
+        run::compare(all, rounds::how_many(all, cases), seed),
         one_group("NEVER MET", sightings::never_met()),
         one_group("TOO QUICK", slow::too_quick(seed).into_iter().collect()),
     ];
@@ -102,10 +109,11 @@ fn main() -> ExitCode {
             return ExitCode::from(2);
         }
     };
+    let all = [groups::answer_groups(), groups::relation_groups()].concat();
     let (passed, failed) = if asked.wrong {
-        catch::catch_all(&groups::answer_groups(), asked.cases, asked.seed)
+        catch::catch_all(&all, asked.cases, asked.seed)
     } else {
-        compare_all(asked.cases, asked.seed)
+        compare_all(&all, asked.cases, asked.seed)
     };
     println!("{passed} passed, {failed} failed");
     if failed == 0 {

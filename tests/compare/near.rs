@@ -2,8 +2,8 @@
 
 use crate::difference::compared;
 use crate::show::{call_shown, difference_shown};
-use second::call::{Call, Entry};
-use second::program::DOCUMENT;
+use second::call::{Behind, Call, Entry};
+use second::program::Program;
 use second::random::Random;
 
 /// A sheet of two rows with all sorts of digits.
@@ -28,8 +28,8 @@ fn texts() -> Vec<Vec<u8>> {
     texts
 }
 
-/// The first of these texts that the proved program reads or answers otherwise than the second one, in words.
-pub fn first_difference(entry: Entry) -> Option<String> {
+/// The first of these texts that the proved program reads or answers otherwise than a second one, in words.
+pub fn first_difference(program: &Program, entry: Entry) -> Option<String> {
     let mut random = Random::of([SHEET.len() as u64]);
     let (processors, method, row, horizon) = (1, 1, 0, 1);
     let (words, bounds) = (Vec::new(), Vec::new());
@@ -42,6 +42,7 @@ pub fn first_difference(entry: Entry) -> Option<String> {
         row,
         horizon,
         text: Vec::new(),
+        behind: Behind::default(),
         room: 40,
     };
     texts().into_iter().find_map(|text| {
@@ -49,7 +50,7 @@ pub fn first_difference(entry: Entry) -> Option<String> {
             text,
             ..call.clone()
         };
-        let shown = difference_shown(&compared(&DOCUMENT, &call, &mut random))?;
+        let shown = difference_shown(&compared(program, &call, &mut random))?;
         Some(format!("{}\n{shown}", call_shown(&call)))
     })
 }

@@ -1,6 +1,7 @@
-//! What must hold between answers of the proved program, whatever they are.
+//! What must hold between answers of one program, whatever they are.
 
-use guarded::{made, Seen};
+use crate::trial::Trial;
+use guarded::Seen;
 use second::call::{Call, Entry};
 use second::checks::{room_needed, rows_in};
 use second::largest::{how_many_sets, largest};
@@ -16,7 +17,7 @@ pub struct Relation {
     pub name: &'static str,
     pub kinds: &'static [Kind],
     pub times: usize,
-    pub broken: fn(&Call, &mut Random) -> Option<String>,
+    pub broken: fn(Trial, &Call, &mut Random) -> Option<String>,
 }
 
 /// Kinds whose refinement is quick.
@@ -30,13 +31,17 @@ const QUICK: &[Kind] = &[
     Kind::Full,
     Kind::Slow,
     Kind::Large,
+    Kind::Late,
+    Kind::Brimming,
+    Kind::Crowd,
+    Kind::Uneven,
 ];
 
 /// How many times as often the engines are held together: 100,000 checks and more in the gate's run.
 const OFTEN: usize = 25;
 
 /// Every relation.
-pub const RELATIONS: [Relation; 8] = [
+pub const RELATIONS: [Relation; 9] = [
     Relation {
         name: "both engines end at the same bounds and marks",
         kinds: QUICK,
@@ -50,10 +55,16 @@ pub const RELATIONS: [Relation; 8] = [
         broken: rta_above_bcl,
     },
     Relation {
-        name: "every final bound is its row's own answer",
+        name: "every final bound and mark is its row's own answer",
         kinds: QUICK,
         times: 1,
         broken: not_consistent,
+    },
+    Relation {
+        name: "a result sheet says what the engines say",
+        kinds: QUICK,
+        times: 1,
+        broken: result_apart,
     },
     Relation {
         name: "the end is the largest of all consistent sets",
@@ -97,8 +108,14 @@ fn asked(call: &Call, entry: Entry) -> Call {
 }
 
 /// What refining by an engine and a method gives.
-fn refined(call: &Call, entry: Entry, method: u32, random: &mut Random) -> Seen {
-    made(
+fn refined(
+    trial: Trial,
+    call: &Call,
+    entry: Entry,
+    method: u32,
+    random: &mut Random,
+) -> Seen {
+    trial.made(
         &Call {
             method,
             ..asked(call, entry)
@@ -108,9 +125,9 @@ fn refined(call: &Call, entry: Entry, method: u32, random: &mut Random) -> Seen 
 }
 
 /// The sheet's own method by both engines.
-fn engines_differ(call: &Call, random: &mut Random) -> Option<String> {
-    let rounds = refined(call, Entry::RefineRounds, call.method, random);
-    let at_once = refined(call, Entry::RefineAtOnce, call.method, random);
+fn engines_differ(trial: Trial, call: &Call, random: &mut Random) -> Option<String> {
+    let rounds = refined(trial, call, Entry::RefineRounds, call.method, random);
+    let at_once = refined(trial, call, Entry::RefineAtOnce, call.method, random);
     let same = rounds.numbers == at_once.numbers
         && (rounds.numbers[0] != 0 || rounds.after == at_once.after);
     (!same).then(|| {
@@ -128,9 +145,9 @@ fn is_better(one: &Seen, other: &Seen) -> bool {
 }
 
 /// RTA against BCL, by the at-once engine.
-fn rta_above_bcl(call: &Call, random: &mut Random) -> Option<String> {
-    let rta = refined(call, Entry::RefineAtOnce, 1, random);
-    let bcl = refined(call, Entry::RefineAtOnce, 0, random);
+fn rta_above_bcl(trial: Trial, call: &Call, random: &mut Random) -> Option<String> {
+    let rta = refined(trial, call, Entry::RefineAtOnce, 1, random);
+    let bcl = refined(trial, call, Entry::RefineAtOnce, 0, random);
     let holds = rta.numbers[0] != 0 || is_better(&rta, &bcl);
     (!holds).then(|| {
         format!(
@@ -140,9 +157,24 @@ fn rta_above_bcl(call: &Call, random: &mut Random) -> Option<String> {
     })
 }
 
-/// The one-row question of every row under the final bounds: the bound of a marked row, none and the deadline of another.
-fn not_consistent(call: &Call, random: &mut Random) -> Option<String> {
-    let end = refined(call, Entry::RefineAtOnce, call.method, random);
+/// Both engines.
+const ENGINES: [Entry; 2] = [Entry::RefineRounds, Entry::RefineAtOnce];
+
+/// Where either engine ends: each row's own answer under the final bounds.
+fn not_consistent(trial: Trial, call: &Call, random: &mut Random) -> Option<String> {
+    ENGINES
+        .iter()
+        .find_map(|&engine| end_not_consistent(trial, call, engine, random))
+}
+
+/// The one-row question of every row under an engine's final bounds: the bound of a marked row, none and the deadline of another.
+fn end_not_consistent(
+    trial: Trial,
+    call: &Call,
+    engine: Entry,
+    random: &mut Random,
+) -> Option<String> {
+    let end = refined(trial, call, engine, call.method, random);
     if end.numbers[0] != 0 {
         return None;
     }
@@ -156,7 +188,7 @@ fn not_consistent(call: &Call, random: &mut Random) -> Option<String> {
         let marked = end.numbers[2] >> row & 1 == 1;
         let due = if marked { end.after[row] } else { 0 };
         let unmarked_below_deadline = !marked && bounds[row] != call.words[3 * row + 1];
-        made(&question, random).numbers != [0, 0, due] || unmarked_below_deadline
+        trial.made(&question, random).numbers != [0, 0, due] || unmarked_below_deadline
     };
     let row = (0..bounds.len()).find(wrong)?;
     Some(format!(
@@ -165,9 +197,36 @@ fn not_consistent(call: &Call, random: &mut Random) -> Option<String> {
     ))
 }
 
+/// The result sheet, and what either engine says written as one: accepted exactly if the marks are those of all rows.
+fn result_apart(trial: Trial, call: &Call, random: &mut Random) -> Option<String> {
+    let result = trial.made(&asked(call, Entry::WriteResult), random);
+    ENGINES.iter().find_map(|&engine| {
+        let end = refined(trial, call, engine, call.method, random);
+        let holds = end.numbers[0] != 0 || bytes_of(&result) == told(&end);
+        (!holds).then(|| {
+            format!(
+                "result sheet {:?}, marks {:X}, bounds {:?}",
+                String::from_utf8_lossy(&bytes_of(&result)),
+                end.numbers[2],
+                end.after
+            )
+        })
+    })
+}
+
+/// The result sheet that an engine's marks and bounds come to.
+fn told(end: &Seen) -> Vec<u8> {
+    let rows = end.after.len();
+    let marks = end.numbers[2];
+    let line = |row: usize| format!("12{:02X}{:06X}\n", marks >> row & 1, end.after[row]);
+    let accepted = marks.count_ones() as usize == rows;
+    let lines: String = (0..rows).map(line).collect();
+    format!("11{:02X}{rows:02X}\n{lines}", accepted as u8).into_bytes()
+}
+
 /// The final bounds against the largest consistent set, found by trying every set, where there are not too many.
-fn not_largest(call: &Call, random: &mut Random) -> Option<String> {
-    let end = refined(call, Entry::RefineAtOnce, call.method, random);
+fn not_largest(trial: Trial, call: &Call, random: &mut Random) -> Option<String> {
+    let end = refined(trial, call, Entry::RefineAtOnce, call.method, random);
     let sheet = Sheet {
         rows: rows_in(&DOCUMENT, &call.words),
         processors: call.processors as u64,
@@ -185,14 +244,15 @@ fn not_largest(call: &Call, random: &mut Random) -> Option<String> {
 }
 
 /// The sheet with its rows in another order: each row keeps its bound and its mark.
-fn order_matters(call: &Call, random: &mut Random) -> Option<String> {
-    let straight = refined(call, Entry::RefineAtOnce, call.method, random);
+fn order_matters(trial: Trial, call: &Call, random: &mut Random) -> Option<String> {
+    let straight = refined(trial, call, Entry::RefineAtOnce, call.method, random);
     let order = random.order(call.words.len() / 3);
     let words = order
         .iter()
         .flat_map(|&row| call.words[3 * row..3 * row + 3].to_vec())
         .collect();
     let mixed = refined(
+        trial,
         &Call {
             words,
             ..call.clone()
@@ -218,13 +278,13 @@ fn order_matters(call: &Call, random: &mut Random) -> Option<String> {
 }
 
 /// The sheet on one processor more.
-fn processor_hurts(call: &Call, random: &mut Random) -> Option<String> {
+fn processor_hurts(trial: Trial, call: &Call, random: &mut Random) -> Option<String> {
     let more = Call {
         processors: call.processors + 1,
         ..call.clone()
     };
-    let with = refined(&more, Entry::RefineAtOnce, call.method, random);
-    let without = refined(call, Entry::RefineAtOnce, call.method, random);
+    let with = refined(trial, &more, Entry::RefineAtOnce, call.method, random);
+    let without = refined(trial, call, Entry::RefineAtOnce, call.method, random);
     let holds = with.numbers[0] != 0 || without.numbers[0] != 0 || is_better(&with, &without);
     (!holds).then(|| {
         format!(
@@ -235,8 +295,8 @@ fn processor_hurts(call: &Call, random: &mut Random) -> Option<String> {
 }
 
 /// The sheet written and read back.
-fn not_back(call: &Call, random: &mut Random) -> Option<String> {
-    let written = made(&asked(call, Entry::WriteSheet), random);
+fn not_back(trial: Trial, call: &Call, random: &mut Random) -> Option<String> {
+    let written = trial.made(&asked(call, Entry::WriteSheet), random);
     if written.numbers[0] != 0 {
         return None;
     }
@@ -244,7 +304,7 @@ fn not_back(call: &Call, random: &mut Random) -> Option<String> {
         text: bytes_of(&written),
         ..asked(call, Entry::ReadSheet)
     };
-    let read = made(&reading, random);
+    let read = trial.made(&reading, random);
     let words: Vec<u64> = call.words.iter().map(|&word| word as u64).collect();
     let numbers = [0, 0, call.processors as u64, words.len() as u64 / 3];
     let same = read.numbers == numbers && read.after == words;
@@ -252,16 +312,16 @@ fn not_back(call: &Call, random: &mut Random) -> Option<String> {
 }
 
 /// The whole answer to the sheet's text, and the RTA result sheet of its rows.
-fn answer_apart(call: &Call, random: &mut Random) -> Option<String> {
-    let text = bytes_of(&made(&asked(call, Entry::WriteSheet), random));
-    let whole = made(
+fn answer_apart(trial: Trial, call: &Call, random: &mut Random) -> Option<String> {
+    let text = bytes_of(&trial.made(&asked(call, Entry::WriteSheet), random));
+    let whole = trial.made(
         &Call {
             text,
             ..asked(call, Entry::AnswerSheet)
         },
         random,
     );
-    let result = made(
+    let result = trial.made(
         &Call {
             method: 1,
             ..asked(call, Entry::WriteResult)

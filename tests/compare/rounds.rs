@@ -2,8 +2,8 @@
 
 use crate::groups::Group;
 use crate::shrink::shrunk;
+use crate::trial::Trial;
 use second::call::Call;
-use second::program::Program;
 use second::random::Random;
 use std::time::Duration;
 
@@ -29,7 +29,7 @@ pub fn how_many(groups: &[Group], checks: u64) -> u64 {
 
 /// Makes one group's checks of a round, and stops at the first that finds something wrong.
 pub fn group_round(
-    program: &Program,
+    trial: Trial,
     groups: &[Group],
     place: usize,
     seed: u64,
@@ -43,7 +43,7 @@ pub fn group_round(
     let mut random = Random::of([seed, round, place as u64]);
     for index in 0..group.checks as u64 {
         let call = group.call(&mut random);
-        if group.trouble(program, &call, &mut random).is_some() {
+        if group.trouble(trial, &call, &mut random).is_some() {
             return Some(Found {
                 group: place,
                 round,
@@ -57,13 +57,13 @@ pub fn group_round(
 
 /// What was found, shrunk within some time to the smallest call that still shows it, and what is wrong there.
 pub fn smallest(
-    program: &Program,
+    trial: Trial,
     groups: &[Group],
     found: &Found,
     time: Duration,
 ) -> (Call, String) {
     let group = &groups[found.group];
-    let trouble = |call: &Call| group.trouble(program, call, &mut Random::of([1]));
+    let trouble = |call: &Call| group.trouble(trial, call, &mut Random::of([1]));
     let call = shrunk(&found.call, time, |tried| trouble(tried).is_some());
     let what = trouble(&call)
         .unwrap_or_else(|| "  seen only with other memory around the call".to_string());

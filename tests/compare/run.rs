@@ -3,7 +3,8 @@
 use crate::groups::Group;
 use crate::rounds::{checks_in_a_round, group_round, smallest, Found};
 use crate::show::call_shown;
-use second::program::DOCUMENT;
+use crate::threads::threads;
+use crate::trial::Trial;
 use std::io::{stderr, IsTerminal, Write};
 use std::sync::atomic::{AtomicU64, Ordering};
 use std::sync::Mutex;
@@ -11,11 +12,6 @@ use std::time::{Duration, Instant};
 
 /// How long a difference is shrunk.
 const SHRINKING: Duration = Duration::from_secs(5);
-
-/// How many threads work at once.
-pub fn threads() -> usize {
-    std::thread::available_parallelism().map_or(1, |count| count.get())
-}
 
 /// The state that the threads share: the next round, how many are done, and the first thing found in each group.
 struct Shared {
@@ -63,7 +59,7 @@ fn work(groups: &[Group], seed: u64, shared: &Shared) {
             if is_settled {
                 continue;
             }
-            if let Some(found) = group_round(&DOCUMENT, groups, place, seed, round) {
+            if let Some(found) = group_round(Trial::Proved, groups, place, seed, round) {
                 shared.found.lock().unwrap()[place].get_or_insert(found);
             }
         }
@@ -114,7 +110,7 @@ fn tell(groups: &[Group], found: &[Found]) {
             continue;
         }
         told.push(group.subject());
-        let (call, what) = smallest(&DOCUMENT, groups, found, SHRINKING);
+        let (call, what) = smallest(Trial::Proved, groups, found, SHRINKING);
         println!(
             "DIFFERENCE in {}\n  {}\n{what}",
             group.name(),

@@ -33,7 +33,21 @@ pub fn call_shown(call: &Call) -> String {
             format!("text {}, room {}", text_shown(&call.text), call.room)
         }
     };
-    format!("{}: {given}", entry_name(call.entry))
+    let behind = behind_shown(call);
+    format!("{}: {given}{behind}", entry_name(call.entry))
+}
+
+/// What is lent behind the words, the bounds and the text, where something is.
+fn behind_shown(call: &Call) -> String {
+    let lent = [
+        (call.behind.words, "words"),
+        (call.behind.bounds, "bounds"),
+        (call.behind.text, "bytes"),
+    ];
+    let shown = lent.iter().filter(|(count, _)| *count > 0);
+    shown
+        .map(|(count, what)| format!(", {count} {what} of 0 behind"))
+        .collect()
 }
 
 /// What differs and what both programs gave, in three lines, where something differs.

@@ -1,6 +1,7 @@
 //! Calls with something wrong in them: every parameter in turn, and at times two at once, so that the order of checks shows.
 
 use crate::damage::damage;
+use crate::widen::{widened, widened_word, with_more_behind};
 use second::call::{Call, Entry};
 use second::program::DOCUMENT;
 use second::random::Random;
@@ -10,18 +11,28 @@ use second::writer::sheet_text;
 type Spoil = fn(&mut Call, &mut Random);
 
 /// The ways to spoil a call of an entry that is given words.
-const IN_WORDS: [Spoil; 8] = [
-    words, rows, processors, method, horizon, room, row_number, bounds,
+const IN_WORDS: [Spoil; 10] = [
+    words,
+    rows,
+    processors,
+    method,
+    horizon,
+    room,
+    row_number,
+    bounds,
+    widened,
+    with_more_behind,
 ];
 
 /// The ways to spoil a call of an entry that is given a text.
-const IN_TEXT: [Spoil; 6] = [
+const IN_TEXT: [Spoil; 7] = [
     damaged,
     damaged,
     damaged,
     numbers_in_text,
     numbers_in_text,
     room,
+    with_more_behind,
 ];
 
 /// Spoils a call in one to three ways.
@@ -48,6 +59,9 @@ fn words(call: &mut Call, random: &mut Random) {
         195,
         196,
         255 * 3,
+        257 * 3,
+        call.words.len() + 256,
+        call.words.len() + 256 * 3,
     ]);
     let filling = call.words.clone();
     let word_at = |place: usize| {
@@ -59,12 +73,20 @@ fn words(call: &mut Call, random: &mut Random) {
     call.words = (0..length).map(word_at).collect();
 }
 
+/// A row's place: any, the last, or one from place 48 on where there are as many.
+pub fn any_place(count: usize, random: &mut Random) -> usize {
+    let from_there = count.min(48) % count;
+    let late = from_there + random.below(count - from_there);
+    let any = random.below(count);
+    random.one_of(&[any, any, late, count - 1])
+}
+
 /// One number of one row outside the sizes allowed, or just inside.
 fn rows(call: &mut Call, random: &mut Random) {
     if call.words.len() < 3 {
         return;
     }
-    let first = random.below(call.words.len() / 3) * 3;
+    let first = any_place(call.words.len() / 3, random) * 3;
     let (cost, deadline, period) = (
         call.words[first],
         call.words[first + 1],
@@ -147,12 +169,13 @@ fn row_number(call: &mut Call, random: &mut Random) {
 
 /// Bounds that are too few, too many, or outside their row's cost to deadline.
 fn bounds(call: &mut Call, random: &mut Random) {
-    let choice = random.below(6);
+    let choice = random.below(7);
     let count = call.bounds.len();
     match choice {
         0 => call.bounds.truncate(count.saturating_sub(1)),
         1 => call.bounds.push(call.bounds.last().copied().unwrap_or(1)),
         2 => call.bounds.clear(),
+        3 => call.bounds.resize(count + 256, 1),
         _ => one_bound(call, random),
     }
 }
@@ -166,7 +189,7 @@ fn one_bound(call: &mut Call, random: &mut Random) {
     let place = if random.once_in(3) {
         (call.row as usize).min(rows - 1)
     } else {
-        random.below(rows)
+        any_place(rows, random)
     };
     let (cost, deadline) = (call.words[3 * place], call.words[3 * place + 1]);
     call.bounds[place] = random.one_of(&[
@@ -191,7 +214,10 @@ fn numbers_in_text(call: &mut Call, random: &mut Random) {
     }
     if random.once_in(4) {
         words(call, random);
-        call.words.truncate(call.words.len() / 3 * 3);
+        call.words.truncate((call.words.len() / 3).min(255) * 3);
+    }
+    if random.once_in(4) {
+        widened_word(call, 1 << random.within(20, 23), random);
     }
     for _ in 0..random.below(3) {
         rows(call, random);

@@ -1,9 +1,7 @@
 //! The scope document's numbers worked by hand, of the proved program and of the second one.
 
-use guarded::made;
-use second::answers::answer;
+use crate::cases::{call, one_processor, one_row, refined, written, Case};
 use second::call::{Answer, Call, Entry};
-use second::checks::room_needed;
 use second::program::DOCUMENT;
 use second::random::Random;
 
@@ -15,94 +13,6 @@ const TWINS: [u32; 6] = [3, 4, 4, 3, 4, 4];
 
 /// Rows of utilisation exactly 1.
 const WHOLE: [u32; 9] = [15, 70, 75, 334, 668, 668, 54, 178, 180];
-
-/// A case: its name, the call, and the numbers and contents that are due.
-type Case = (&'static str, Call, Answer);
-
-/// A call with nothing in it yet but its entry, rows and processors.
-fn call(entry: Entry, words: &[u32], processors: u32) -> Call {
-    let room = room_needed(entry, words.len() / 3);
-    Call {
-        entry,
-        words: words.to_vec(),
-        processors,
-        method: 1,
-        bounds: Vec::new(),
-        row: 0,
-        horizon: 1,
-        text: Vec::new(),
-        room,
-    }
-}
-
-/// A one-row case.
-fn one_row(
-    name: &'static str,
-    words: &[u32],
-    processors: u32,
-    method: u32,
-    bounds: &[u32],
-    row: u32,
-    bound: u64,
-) -> Case {
-    let asked = Call {
-        method,
-        bounds: bounds.to_vec(),
-        row,
-        ..call(Entry::OneRow, words, processors)
-    };
-    (
-        name,
-        asked,
-        Answer {
-            numbers: vec![0, 0, bound],
-            ..Answer::default()
-        },
-    )
-}
-
-/// A one-processor case: outcome 0 undecided, 1 miss, 2 fits.
-fn one_processor(
-    name: &'static str,
-    words: &[u32],
-    horizon: u32,
-    outcome: u64,
-    length: u64,
-) -> Case {
-    let asked = Call {
-        horizon,
-        ..call(Entry::OneProcessor, words, 1)
-    };
-    (
-        name,
-        asked,
-        Answer {
-            numbers: vec![0, 0, outcome, length],
-            ..Answer::default()
-        },
-    )
-}
-
-/// A refining case.
-fn refined(
-    name: &'static str,
-    entry: Entry,
-    words: &[u32],
-    processors: u32,
-    marks: u64,
-    bounds: &[u32],
-) -> Case {
-    let numbers = vec![0, 0, marks];
-    (
-        name,
-        call(entry, words, processors),
-        Answer {
-            numbers,
-            words: bounds.to_vec(),
-            text: Vec::new(),
-        },
-    )
-}
 
 /// Questions about one row: P4 to P7.
 fn row_cases() -> Vec<Case> {
@@ -186,57 +96,35 @@ fn text_cases() -> Vec<Case> {
         text: sheet[..69].to_vec(),
         ..whole.clone()
     };
-    let written = |text: Vec<u8>| Answer {
-        numbers: vec![0, 0, text.len() as u64],
-        words: Vec::new(),
-        text,
+    let read_answer = Answer {
+        numbers: vec![0, 0, 2, 3],
+        words: S.to_vec(),
+        text: Vec::new(),
     };
     vec![
-        (
-            "case S read",
-            read,
-            Answer {
-                numbers: vec![0, 0, 2, 3],
-                words: S.to_vec(),
-                text: Vec::new(),
-            },
-        ),
-        (
-            "case S written",
-            call(Entry::WriteSheet, &S, 2),
-            written(sheet),
-        ),
-        (
+        Case {
+            name: "case S read",
+            call: read,
+            due: read_answer,
+        },
+        written("case S written", call(Entry::WriteSheet, &S, 2), &sheet),
+        written(
             "case S as a result sheet",
             call(Entry::WriteResult, &S, 2),
-            written(result.clone()),
+            &result,
         ),
-        ("case S answered", whole, written(result)),
-        ("case S cut short", cut, written(b"1F010045\n".to_vec())),
+        written("case S answered", whole, &result),
+        written("case S cut short", cut, b"1F010045\n"),
     ]
+}
+
+/// Every case.
+pub fn cases() -> Vec<Case> {
+    [row_cases(), processor_cases(), sheet_cases(), text_cases()].concat()
 }
 
 /// The cases that one of the programs answers otherwise.
 pub fn wrong_cases(random: &mut Random) -> Vec<String> {
-    let mut wrong = Vec::new();
-    for (name, call, due) in [row_cases(), processor_cases(), sheet_cases(), text_cases()].concat()
-    {
-        let seen = made(&call, random);
-        let contents: Vec<u64> = due
-            .words
-            .iter()
-            .map(|&word| word as u64)
-            .chain(due.text.iter().map(|&byte| byte as u64))
-            .collect();
-        let proved_right = seen.numbers == due.numbers && seen.after.starts_with(&contents);
-        if !proved_right || answer(&DOCUMENT, &call) != due {
-            wrong.push(format!(
-                "{name}: proved program {:?}, second program {:?}, due {:?}",
-                seen.numbers,
-                answer(&DOCUMENT, &call).numbers,
-                due.numbers
-            ));
-        }
-    }
-    wrong
+    let wrong = |case: Case| [case.proved_wrong(random), case.second_wrong(&DOCUMENT)];
+    cases().into_iter().flat_map(wrong).flatten().collect()
 }

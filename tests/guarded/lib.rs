@@ -4,6 +4,7 @@ mod exported;
 mod lent;
 mod made;
 mod plain;
+mod wide;
 
 pub use made::{made, Seen, CALLS};
 pub use plain::{one_processor, refine_at_once, refine_rounds, write_result};

@@ -30,9 +30,9 @@ struct Inputs {
 pub fn made(call: &Call, random: &mut Random) -> Seen {
     CALLS.fetch_add(1, Ordering::Relaxed);
     let mut inputs = Inputs {
-        words: Lent::new(&call.words, random),
-        bounds: Lent::new(&call.bounds, random),
-        text: Lent::new(&call.text, random),
+        words: Lent::new(&call.words, call.behind.words, random),
+        bounds: Lent::new(&call.bounds, call.behind.bounds, random),
+        text: Lent::new(&call.text, call.behind.text, random),
     };
     match call.entry {
         Entry::OneRow | Entry::OneProcessor => answered(call, inputs),
@@ -69,7 +69,7 @@ fn answered(call: &Call, mut inputs: Inputs) -> Seen {
             _ => circuitrail_one_processor(words, length, call.horizon).into(),
         }
     };
-    let nothing: Lent<u8> = Lent::new(&[], &mut Random::of([0]));
+    let nothing: Lent<u8> = Lent::new(&[], 0, &mut Random::of([0]));
     seen(numbers, &inputs, &nothing)
 }
 

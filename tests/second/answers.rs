@@ -1,6 +1,6 @@
 //! What every entry answers: refused, or worked out.
 
-use crate::call::{Answer, Call, Entry};
+use crate::call::{Answer, Behind, Call, Entry};
 use crate::checks::{refusal, rows_in, Refusal};
 use crate::one_processor::Verdict;
 use crate::one_row::one_row;
@@ -55,8 +55,14 @@ fn sheet_of(program: &Program, call: &Call) -> Sheet {
     }
 }
 
+/// A call as the program takes it: with every number and every length as it is given.
+pub fn taken(call: &Call) -> Call {
+    call.clone()
+}
+
 /// The answer to any call.
 pub fn answer(program: &Program, call: &Call) -> Answer {
+    let call = &(program.taken)(call);
     match call.entry {
         Entry::ReadSheet => read_sheet(program, call),
         Entry::AnswerSheet => answer_sheet(program, call),
@@ -121,9 +127,16 @@ fn outcome(program: &Program, call: &Call) -> Answer {
     }
 }
 
+/// The text of a call as far as any reader goes: of the bytes 0 behind it the first is one too many.
+fn text_met(call: &Call) -> Vec<u8> {
+    let mut text = call.text.clone();
+    text.extend((call.behind.text > 0).then_some(0));
+    text
+}
+
 /// The call that a sheet's text makes of a call, or the refusal that its line form or its numbers give.
 fn call_in_text(program: &Program, call: &Call) -> Result<Call, Refusal> {
-    let written = (program.read)(program, &call.text).map_err(|place| Refusal {
+    let written = (program.read)(program, &text_met(call)).map_err(|place| Refusal {
         number: 1,
         place: place as u32,
     })?;
@@ -131,6 +144,7 @@ fn call_in_text(program: &Program, call: &Call) -> Result<Call, Refusal> {
         words: written.words,
         processors: written.processors,
         method: 1,
+        behind: Behind::default(),
         ..call.clone()
     };
     match refusal(program, &inner) {

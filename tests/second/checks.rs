@@ -76,17 +76,17 @@ pub fn rows_in(program: &Program, words: &[u32]) -> Vec<Row> {
     words.chunks_exact(3).map(program.row_of).collect()
 }
 
-/// The place of a check on a call where it holds.
+/// The place of a check on a call where it holds. Bounds of 0 lent behind the others are too many, and none is a bound.
 fn held(program: &Program, call: &Call, rows: &[Row], number: u32) -> Option<u32> {
     let holds = match number {
-        2 => call.words.is_empty() || call.words.len() % 3 != 0,
-        3 => rows.len() > 64,
+        2 => call.word_count() == 0 || call.word_count() % 3 != 0,
+        3 => call.row_count() > 64,
         4 => (program.processors_wrong)(call.processors),
         5 => (program.method_wrong)(call.method),
         6 => (program.horizon_wrong)(call.horizon),
-        7 => call.room < room_needed(call.entry, rows.len()),
+        7 => call.room < room_needed(call.entry, call.row_count()),
         8 => return (program.bad_row)(program, rows).map(|place| place as u32),
-        _ => (program.question_wrong)(rows, &call.bounds, call.row),
+        _ => call.behind.bounds > 0 || (program.question_wrong)(rows, &call.bounds, call.row),
     };
     holds.then_some(0)
 }

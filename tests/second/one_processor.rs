@@ -29,6 +29,11 @@ pub fn jobs_begun(row: Row, length: u64) -> u64 {
     length.div_ceil(row.period)
 }
 
+/// Whether the cost of all jobs that can begin within a length fills it exactly.
+pub fn fills(begun: u64, length: u64) -> bool {
+    begun == length
+}
+
 /// The verdict within a horizon. Every length up to it is looked at, those past the busy length too: that a busy length
 /// settles all later ones is a theorem of the proved program, and is not used here.
 pub fn verdict(program: &Program, rows: &[Row], horizon: u64) -> Verdict {
@@ -45,8 +50,8 @@ pub fn verdict(program: &Program, rows: &[Row], horizon: u64) -> Verdict {
     busy.map_or(Verdict::Undecided, Verdict::Fits)
 }
 
-/// Whether a length equals the cost of all jobs that can begin within it.
+/// Whether a length is filled exactly by the cost of all jobs that can begin within it.
 fn is_busy(program: &Program, rows: &[Row], length: u64) -> bool {
     let begun = |row: &Row| (program.jobs_begun)(*row, length) * row.cost;
-    length == rows.iter().map(begun).sum()
+    (program.fills)(rows.iter().map(begun).sum(), length)
 }

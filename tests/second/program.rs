@@ -3,7 +3,7 @@
 //! Every function reaches the parts below through this record, so that a wrong program is the right one with one part
 //! exchanged.
 
-use crate::call::{Answer, Entry};
+use crate::call::{Answer, Call, Entry};
 use crate::checks::Refusal;
 use crate::one_processor::Verdict;
 use crate::reader::Written;
@@ -16,6 +16,7 @@ type Method = fn(&Program, &Sheet, usize, &[u64]) -> Option<u64>;
 /// The parts, each named as the function that DOCUMENT has in its place.
 #[derive(Clone, Copy)]
 pub struct Program {
+    pub taken: fn(&Call) -> Call,
     pub row_of: fn(&[u32]) -> Row,
     pub is_other: fn(&[Row], usize, usize) -> bool,
     pub share: fn(Row, u64, u64) -> u64,
@@ -34,6 +35,7 @@ pub struct Program {
     pub demand: fn(Row, u64) -> u64,
     pub misses: fn(u64, u64) -> bool,
     pub jobs_begun: fn(Row, u64) -> u64,
+    pub fills: fn(u64, u64) -> bool,
     pub verdict: fn(&Program, &[Row], u64) -> Verdict,
     pub digit: fn(u8) -> Option<u32>,
     pub read: fn(&Program, &[u8]) -> Result<Written, usize>,
@@ -51,6 +53,7 @@ pub struct Program {
 
 /// The program that the scope document describes.
 pub const DOCUMENT: Program = Program {
+    taken: answers::taken,
     row_of: rows::row_of,
     is_other: interference::is_other,
     share: interference::share,
@@ -69,6 +72,7 @@ pub const DOCUMENT: Program = Program {
     demand: one_processor::demand,
     misses: one_processor::misses,
     jobs_begun: one_processor::jobs_begun,
+    fills: one_processor::fills,
     verdict: one_processor::verdict,
     digit: reader::digit,
     read: reader::read,

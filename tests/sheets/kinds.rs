@@ -1,6 +1,6 @@
 //! The kinds of sheets.
 
-use crate::{shapes, slow};
+use crate::{ends, shapes, slow};
 use second::random::Random;
 use second::rows::Sheet;
 
@@ -31,10 +31,18 @@ pub enum Kind {
     Slow,
     /// A few rows of large numbers of all sorts, refined in few passes.
     Large,
+    /// 49 to 64 rows of which only late ones are not marked.
+    Late,
+    /// Rows whose costs come to just past a power of two.
+    Brimming,
+    /// Many rows of large middling costs.
+    Crowd,
+    /// Tiny and huge periods beside each other.
+    Uneven,
 }
 
 /// Every kind.
-pub const KINDS: [Kind; 12] = [
+pub const KINDS: [Kind; 16] = [
     Kind::Tiny,
     Kind::Middle,
     Kind::Edges,
@@ -47,6 +55,10 @@ pub const KINDS: [Kind; 12] = [
     Kind::Counts,
     Kind::Slow,
     Kind::Large,
+    Kind::Late,
+    Kind::Brimming,
+    Kind::Crowd,
+    Kind::Uneven,
 ];
 
 /// A random sheet of a kind.
@@ -64,5 +76,9 @@ pub fn sheet(kind: Kind, random: &mut Random) -> Sheet {
         Kind::Counts => shapes::counts(random),
         Kind::Slow => slow::slow(random),
         Kind::Large => slow::large(random),
+        Kind::Late => ends::late(random),
+        Kind::Brimming => ends::brimming(random),
+        Kind::Crowd => ends::crowd(random),
+        Kind::Uneven => ends::uneven(random),
     }
 }

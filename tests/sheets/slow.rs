@@ -6,6 +6,15 @@ use crate::families::{
 use second::random::Random;
 use second::rows::{Row, Sheet};
 
+/// A step of the climbing pair: most are small, and once in forty times one takes 500 passes and more.
+fn step(random: &mut Random) -> u64 {
+    if random.once_in(40) {
+        random.within(500, 2_500)
+    } else {
+        random.within(10, 350)
+    }
+}
+
 /// One of the slow families at a random size.
 fn of_a_family(random: &mut Random) -> Sheet {
     let on_one = |rows: Vec<Row>| Sheet {
@@ -30,7 +39,7 @@ fn of_a_family(random: &mut Random) -> Sheet {
             random.within(2, 12),
             random.within(12, 300),
         )),
-        _ => on_one(climbing_pair(random.within(10, 350))),
+        _ => on_one(climbing_pair(step(random))),
     }
 }
 

@@ -1,5 +1,6 @@
 //! Slips in the one-row answer and in refining.
 
+use super::given_up::passes;
 use super::Slip;
 use second::interference::{share, work};
 use second::one_row::{one_row, solutions};
@@ -22,7 +23,7 @@ pub const SLIPS: [Slip; 17] = [
         program.rta_term = without_work
     }),
     ("stops after one pass at once", |program| {
-        program.refined = one_pass
+        program.refined = passes::<1>
     }),
     ("stops as soon as all rows are marked", |program| {
         program.refined = until_all_marked
@@ -78,14 +79,6 @@ fn without_work(_work: u64, share: u64, cap: u64) -> u64 {
     share.min(cap)
 }
 
-/// Rows 0 upward once, each new bound used at once.
-fn one_pass(program: &Program, sheet: &Sheet, method: u32) -> Vec<u64> {
-    let mut bounds = first_bounds(&sheet.rows);
-    let order: Vec<usize> = (0..bounds.len()).collect();
-    pass(program, sheet, method, &order, &mut bounds);
-    bounds
-}
-
 /// Passes until every row has an answer, as the papers do.
 fn until_all_marked(program: &Program, sheet: &Sheet, method: u32) -> Vec<u64> {
     let mut bounds = first_bounds(&sheet.rows);
@@ -100,7 +93,7 @@ fn until_all_marked(program: &Program, sheet: &Sheet, method: u32) -> Vec<u64> {
 }
 
 /// The costs as first bounds.
-fn costs(rows: &[Row]) -> Vec<u64> {
+pub fn costs(rows: &[Row]) -> Vec<u64> {
     rows.iter().map(|row| row.cost).collect()
 }
 

@@ -31,7 +31,7 @@ fn toward_zero(row: Row, length: u64) -> u64 {
 }
 
 /// Fits where no length up to the horizon misses.
-fn clean_horizon(program: &Program, rows: &[Row], horizon: u64) -> Verdict {
+pub fn clean_horizon(program: &Program, rows: &[Row], horizon: u64) -> Verdict {
     match verdict(program, rows, horizon) {
         Verdict::Undecided => Verdict::Fits(horizon),
         decided => decided,

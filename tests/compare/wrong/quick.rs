@@ -8,10 +8,7 @@ use second::refine::{first_bounds, pass};
 use second::rows::{Row, Sheet};
 
 /// The slips: what a wrong program does, and the part that is exchanged.
-pub const SLIPS: [Slip; 8] = [
-    ("stops after a hundred passes", |program| {
-        program.refined = hundred_passes
-    }),
+pub const SLIPS: [Slip; 7] = [
     ("jumps one value too far in a long climb", |program| {
         program.rta = jumping_too_far
     }),
@@ -35,14 +32,6 @@ pub const SLIPS: [Slip; 8] = [
     }),
 ];
 
-/// Passes until one changes nothing, but no more than a hundred.
-fn hundred_passes(program: &Program, sheet: &Sheet, method: u32) -> Vec<u64> {
-    let mut bounds = first_bounds(&sheet.rows);
-    let order: Vec<usize> = (0..bounds.len()).collect();
-    (0..100).any(|_| !pass(program, sheet, method, &order, &mut bounds));
-    bounds
-}
-
 /// The climb from the cost, value by value that the right side gives, to where it stays; some steps are long.
 fn climbed(
     row: Row,
@@ -58,6 +47,12 @@ fn climbed(
         tried = next(tried, right);
     }
     None
+}
+
+/// RTA by a climb: no slip in itself, and quick where trying every value takes long.
+pub fn climbing(program: &Program, sheet: &Sheet, asked: usize, bounds: &[u64]) -> Option<u64> {
+    let right_side = right_side(program, sheet, asked, bounds);
+    climbed(sheet.rows[asked], right_side, |_, right| right)
 }
 
 /// A climb that goes one value past the right side where the climb has come far.

@@ -28,6 +28,9 @@ pub const SLIPS: [Slip; 7] = [
     }),
 ];
 
+/// The slips that every text near a sheet's must show.
+pub const NEAR: [Slip; 4] = [SLIPS[0], SLIPS[1], SLIPS[2], SLIPS[3]];
+
 /// The wrong byte's offset and one more.
 fn one_late(program: &Program, text: &[u8]) -> Result<Written, usize> {
     read(program, text).map_err(|place| place + 1)

@@ -1,0 +1,138 @@
+//! Fixed cases: a call and the answer that is due.
+
+use guarded::made;
+use second::answers::answer;
+use second::call::{Answer, Behind, Call, Entry};
+use second::checks::room_needed;
+use second::program::Program;
+use second::random::Random;
+
+/// A case: its name, the call, and the numbers and contents that are due.
+#[derive(Clone)]
+pub struct Case {
+    pub name: &'static str,
+    pub call: Call,
+    pub due: Answer,
+}
+
+impl Case {
+    /// What is wrong with the proved program's answer, in words, if something is.
+    pub fn proved_wrong(&self, random: &mut Random) -> Option<String> {
+        let seen = made(&self.call, random);
+        let words = self.due.words.iter().map(|&word| word as u64);
+        let text = self.due.text.iter().map(|&byte| byte as u64);
+        let contents: Vec<u64> = words.chain(text).collect();
+        let is_right = seen.numbers == self.due.numbers && seen.after.starts_with(&contents);
+        (!is_right).then(|| self.told("proved program", &seen.numbers))
+    }
+
+    /// What is wrong with a second program's answer, in words, if something is.
+    pub fn second_wrong(&self, program: &Program) -> Option<String> {
+        let given = answer(program, &self.call);
+        (given != self.due).then(|| self.told("second program", &given.numbers))
+    }
+
+    /// A wrong answer in words.
+    fn told(&self, who: &str, numbers: &[u64]) -> String {
+        let Case { name, due, .. } = self;
+        format!("{name}: {who} {numbers:?}, due {:?}", due.numbers)
+    }
+}
+
+/// A call with nothing in it yet but its entry, rows and processors.
+pub fn call(entry: Entry, words: &[u32], processors: u32) -> Call {
+    let room = room_needed(entry, words.len() / 3);
+    Call {
+        entry,
+        words: words.to_vec(),
+        processors,
+        method: 1,
+        bounds: Vec::new(),
+        row: 0,
+        horizon: 1,
+        text: Vec::new(),
+        behind: Behind::default(),
+        room,
+    }
+}
+
+/// A one-row case.
+pub fn one_row(
+    name: &'static str,
+    words: &[u32],
+    processors: u32,
+    method: u32,
+    bounds: &[u32],
+    row: u32,
+    bound: u64,
+) -> Case {
+    let asked = Call {
+        method,
+        bounds: bounds.to_vec(),
+        row,
+        ..call(Entry::OneRow, words, processors)
+    };
+    let due = Answer {
+        numbers: vec![0, 0, bound],
+        ..Answer::default()
+    };
+    Case {
+        name,
+        call: asked,
+        due,
+    }
+}
+
+/// A one-processor case: outcome 0 undecided, 1 miss, 2 fits.
+pub fn one_processor(
+    name: &'static str,
+    words: &[u32],
+    horizon: u32,
+    outcome: u64,
+    length: u64,
+) -> Case {
+    let asked = Call {
+        horizon,
+        ..call(Entry::OneProcessor, words, 1)
+    };
+    let due = Answer {
+        numbers: vec![0, 0, outcome, length],
+        ..Answer::default()
+    };
+    Case {
+        name,
+        call: asked,
+        due,
+    }
+}
+
+/// A refining case.
+pub fn refined(
+    name: &'static str,
+    entry: Entry,
+    words: &[u32],
+    processors: u32,
+    marks: u64,
+    bounds: &[u32],
+) -> Case {
+    let due = Answer {
+        numbers: vec![0, 0, marks],
+        words: bounds.to_vec(),
+        text: Vec::new(),
+    };
+    Case {
+        name,
+        call: call(entry, words, processors),
+        due,
+    }
+}
+
+/// A case whose answer is a text.
+pub fn written(name: &'static str, call: Call, text: &[u8]) -> Case {
+    let due = Answer {
+        numbers: vec![0, 0, text.len() as u64],
+        words: Vec::new(),
+        text: text.to_vec(),
+    };
+    Case { name, call, due }
+}

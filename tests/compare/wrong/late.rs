@@ -1,0 +1,74 @@
+//! Slips with rows at late places.
+
+use super::Slip;
+use second::checks;
+use second::program::Program;
+use second::refine::{accepted, is_marked, marks};
+use second::rows::Row;
+
+/// The slips: what a wrong program does, and the part that is exchanged.
+pub const SLIPS: [Slip; 14] = [
+    ("accepts without a look at row 63", |program| {
+        program.accepted = accepted_by_first::<63>
+    }),
+    ("accepts by the first 48 rows", |program| {
+        program.accepted = accepted_by_first::<48>
+    }),
+    ("accepts by the first 32 rows", |program| {
+        program.accepted = accepted_by_first::<32>
+    }),
+    ("leaves row 63 without a mark", |program| {
+        program.marks = |marked| marks(marked) & (u64::MAX >> 1)
+    }),
+    ("marks row 63 whatever its answer", |program| {
+        program.marks = |marked| marks(marked) | ((marked.len() == 64) as u64) << 63
+    }),
+    ("marks rows from 48 on whatever their answers", |program| {
+        program.is_marked = |program, sheet, method, place, bounds| {
+            place >= 48 || is_marked(program, sheet, method, place, bounds)
+        }
+    }),
+    ("leaves row 63 unchecked", |program| {
+        program.bad_row = bad_in_first::<63>
+    }),
+    ("leaves rows from 48 on unchecked", |program| {
+        program.bad_row = bad_in_first::<48>
+    }),
+    ("leaves rows from 32 on unchecked", |program| {
+        program.bad_row = bad_in_first::<32>
+    }),
+    ("names a bad row by five bits of its place", |program| {
+        program.bad_row = |program, rows| checks::bad_row(program, rows).map(|place| place & 31)
+    }),
+    ("leaves row 63's bound unchecked", |program| {
+        program.question_wrong = bounds_of_first::<63>
+    }),
+    ("leaves bounds from row 48 on unchecked", |program| {
+        program.question_wrong = bounds_of_first::<48>
+    }),
+    ("refuses to ask about row 63", |program| {
+        program.question_wrong =
+            |rows, bounds, row| row == 63 || checks::question_wrong(rows, bounds, row)
+    }),
+    ("has row 63 left out of what others meet", |program| {
+        program.is_other = |_rows, place, asked| place != asked && place != 63
+    }),
+];
+
+/// Whether the first rows are all marked.
+pub fn accepted_by_first<const COUNT: usize>(marked: &[bool]) -> bool {
+    accepted(&marked[..marked.len().min(COUNT)])
+}
+
+/// The first of the first rows that is outside the sizes allowed.
+fn bad_in_first<const COUNT: usize>(program: &Program, rows: &[Row]) -> Option<usize> {
+    checks::bad_row(program, &rows[..rows.len().min(COUNT)])
+}
+
+/// The one-row question checked but for the bounds behind the first rows.
+fn bounds_of_first<const COUNT: usize>(rows: &[Row], bounds: &[u32], row: u32) -> bool {
+    let costs = rows.iter().map(|row| row.cost as u32);
+    let late = costs.take(bounds.len()).skip(COUNT);
+    let bounds: Vec<u32> = bounds.iter().take(COUNT).copied().chain(late).collect();
+    checks::question_wrong(rows, &bounds, row)
+}

@@ -1,0 +1,105 @@
+//! A slip for each relation: a program with it contradicts itself there.
+
+use super::analysis::costs;
+use super::given_up::passes;
+use super::late::accepted_by_first;
+use super::Slip;
+use second::call::{Call, Entry};
+use second::one_row::rta;
+use second::program::Program;
+use second::reader::{read, Written};
+use second::rows::Sheet;
+
+/// The slip that a relation is to show.
+pub fn slip(relation: &str) -> Slip {
+    let named = SLIPS.iter().find(|(name, _)| *name == relation);
+    named.map_or(("does nothing wrong", |_| {}), |(_, slip)| *slip)
+}
+
+/// The slips, by the relations that are to show them.
+const SLIPS: [(&str, Slip); 9] = [
+    (
+        "both engines end at the same bounds and marks",
+        ("refines in rounds by BCL", |program| {
+            program.taken = rounds_by_bcl
+        }),
+    ),
+    (
+        "RTA is never above BCL and marks what BCL marks",
+        ("rounds up by RTA", |program| program.rta = rounded_up),
+    ),
+    (
+        "every final bound and mark is its row's own answer",
+        ("stops after one pass", |program| {
+            program.refined = passes::<1>
+        }),
+    ),
+    (
+        "a result sheet says what the engines say",
+        ("accepts without a look at row 63", |program| {
+            program.accepted = accepted_by_first::<63>
+        }),
+    ),
+    (
+        "the end is the largest of all consistent sets",
+        ("begins with the costs", |program| {
+            program.first_bounds = costs
+        }),
+    ),
+    (
+        "the order of rows changes nothing",
+        ("stops after one pass", |program| {
+            program.refined = passes::<1>
+        }),
+    ),
+    (
+        "a processor more is never worse",
+        ("takes two processors for three and three for two", |program| {
+            program.divided = |sum, processors| sum / (processors ^ (processors & 2) >> 1)
+        }),
+    ),
+    (
+        "a sheet written and read is the same",
+        ("reads a processor more", |program| {
+            program.read = processor_more
+        }),
+    ),
+    (
+        "the whole answer is reading and then the result sheet",
+        ("reads a processor more", |program| {
+            program.read = processor_more
+        }),
+    ),
+];
+
+/// The call by BCL where it refines in rounds.
+fn rounds_by_bcl(call: &Call) -> Call {
+    let mut taken = call.clone();
+    if call.entry == Entry::RefineRounds {
+        taken.method = 0;
+    }
+    taken
+}
+
+/// RTA with the sum's part rounded up.
+fn rounded_up(
+    program: &Program,
+    sheet: &Sheet,
+    asked: usize,
+    bounds: &[u64],
+) -> Option<u64> {
+    let program = Program {
+        divided: u64::div_ceil,
+        ..*program
+    };
+    rta(&program, sheet, asked, bounds)
+}
+
+/// Reads a sheet with one processor more.
+fn processor_more(program: &Program, text: &[u8]) -> Result<Written, usize> {
+    let written = read(program, text)?;
+    Ok(Written {
+        processors: written.processors + 1,
+        ..written
+    })
+}

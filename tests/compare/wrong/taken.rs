@@ -1,0 +1,128 @@
+//! Slips in taking a call in: numbers and lengths of which only the lowest bits are seen.
+
+use super::narrow::cut;
+use super::Slip;
+use second::call::Call;
+
+/// The slips: what a wrong program does, and the part that is exchanged.
+pub fn slips() -> Vec<Slip> {
+    let lists: [&[Slip]; 11] = [
+        &kept_in!("the words", taken, words, [20, 24, 28, 31]),
+        &kept_in!("the bounds", taken, bounds, [20, 24, 28, 31]),
+        &kept_in!("the row number", taken, row_number, [16, 20, 24, 28, 31]),
+        &kept_in!("the horizon", taken, horizon, [24, 25, 28, 31]),
+        &kept_in!("the processors", taken, processors, [16, 20, 24, 28, 31]),
+        &kept_in!("the method", taken, method, [16, 20, 24, 28, 31]),
+        &kept_in!("the row count", taken, row_count, [8, 16, 24]),
+        &kept_in!("the words' length", taken, words_length, [16, 24, 32]),
+        &kept_in!("the bounds' length", taken, bounds_length, [8, 16, 24, 32]),
+        &kept_in!("the text's length", taken, text_length, [16, 24, 32]),
+        &kept_in!("the room", taken, room, [16, 24, 32]),
+    ];
+    lists.concat()
+}
+
+/// A word's lowest bits.
+fn cut_word<const BITS: u32>(word: u32) -> u32 {
+    cut::<BITS>(word as u64) as u32
+}
+
+/// Elements and what is lent behind them, seen with their length cut: those that are left, and what is left behind them.
+fn cut_list<T: Clone, const BITS: u32>(elements: &[T], behind: usize) -> (Vec<T>, usize) {
+    shorter(elements, behind, cut::<BITS>((elements.len() + behind) as u64) as usize)
+}
+
+/// Elements and what is lent behind them up to a length.
+fn shorter<T: Clone>(elements: &[T], behind: usize, length: usize) -> (Vec<T>, usize) {
+    let kept = elements.len().min(length);
+    (elements[..kept].to_vec(), (length - kept).min(behind))
+}
+
+/// The call with its words cut.
+fn words<const BITS: u32>(call: &Call) -> Call {
+    let words = call.words.iter().map(|&word| cut_word::<BITS>(word));
+    Call {
+        words: words.collect(),
+        ..call.clone()
+    }
+}
+
+/// The call with its bounds cut.
+fn bounds<const BITS: u32>(call: &Call) -> Call {
+    let bounds = call.bounds.iter().map(|&bound| cut_word::<BITS>(bound));
+    Call {
+        bounds: bounds.collect(),
+        ..call.clone()
+    }
+}
+
+/// The call with its row number cut.
+fn row_number<const BITS: u32>(call: &Call) -> Call {
+    Call {
+        row: cut_word::<BITS>(call.row),
+        ..call.clone()
+    }
+}
+
+/// The call with its horizon cut.
+fn horizon<const BITS: u32>(call: &Call) -> Call {
+    Call {
+        horizon: cut_word::<BITS>(call.horizon),
+        ..call.clone()
+    }
+}
+
+/// The call with its processors cut.
+fn processors<const BITS: u32>(call: &Call) -> Call {
+    Call {
+        processors: cut_word::<BITS>(call.processors),
+        ..call.clone()
+    }
+}
+
+/// The call with its method cut.
+fn method<const BITS: u32>(call: &Call) -> Call {
+    Call {
+        method: cut_word::<BITS>(call.method),
+        ..call.clone()
+    }
+}
+
+/// The call with its row count cut; words that are not whole rows stay as they are.
+fn row_count<const BITS: u32>(call: &Call) -> Call {
+    let mut taken = call.clone();
+    if call.word_count() % 3 == 0 {
+        let length = 3 * cut::<BITS>(call.row_count() as u64) as usize;
+        (taken.words, taken.behind.words) = shorter(&call.words, call.behind.words, length);
+    }
+    taken
+}
+
+/// The call with the length of its words cut.
+fn words_length<const BITS: u32>(call: &Call) -> Call {
+    let mut taken = call.clone();
+    (taken.words, taken.behind.words) = cut_list::<_, BITS>(&call.words, call.behind.words);
+    taken
+}
+
+/// The call with the length of its bounds cut.
+fn bounds_length<const BITS: u32>(call: &Call) -> Call {
+    let mut taken = call.clone();
+    (taken.bounds, taken.behind.bounds) = cut_list::<_, BITS>(&call.bounds, call.behind.bounds);
+    taken
+}
+
+/// The call with the length of its text cut.
+fn text_length<const BITS: u32>(call: &Call) -> Call {
+    let mut taken = call.clone();
+    (taken.text, taken.behind.text) = cut_list::<_, BITS>(&call.text, call.behind.text);
+    taken
+}
+
+/// The call with its room cut.
+fn room<const BITS: u32>(call: &Call) -> Call {
+    Call {
+        room: cut::<BITS>(call.room as u64) as usize,
+        ..call.clone()
+    }
+}
