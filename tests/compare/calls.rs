@@ -33,23 +33,27 @@ pub fn right_call(entry: Entry, kind: Kind, random: &mut Random) -> Call {
     }
 }
 
-/// How many terms of sums are few enough to be tried value by value often, and how many now and then.
-const SOON: [u64; 2] = [300_000, 6_000_000];
+/// How many terms of sums are few enough to be tried value by value: in a pass, and for one row, which is asked only once; often,
+/// and now and then.
+const SOON_IN_A_PASS: [u64; 2] = [300_000, 6_000_000];
+const SOON_FOR_A_ROW: [u64; 2] = [2_000_000, 40_000_000];
 
 /// Whether a kind has sheets on which RTA, value by value, takes too long.
 fn may_take_long(kind: Kind) -> bool {
     matches!(kind, Kind::Brimming | Kind::Crowd | Kind::Uneven)
 }
 
-/// Whether RTA, value by value, ends soon: for the row asked, or in a pass over all rows. A sheet that takes longer may come once
-/// in forty times.
+/// Whether RTA, value by value, ends soon: for the row asked, or in a pass over all rows.
 fn ends_soon(entry: Entry, rows: &[Row], row: usize, random: &mut Random) -> bool {
-    let asked = match entry {
-        Entry::OneRow => &rows[row..row + 1],
-        _ => rows,
+    let (asked, soon) = match entry {
+        Entry::OneRow => (
+            &rows[row..row + 1],
+            SOON_FOR_A_ROW[random.once_in(4) as usize],
+        ),
+        _ => (rows, SOON_IN_A_PASS[random.once_in(40) as usize]),
     };
     let values: u64 = asked.iter().map(|row| row.deadline - row.cost + 1).sum();
-    values * rows.len() as u64 <= SOON[random.once_in(40) as usize]
+    values * rows.len() as u64 <= soon
 }
 
 /// A sheet of a kind; where its text is answered, which is by RTA, one on which that ends soon.
@@ -97,6 +101,7 @@ fn longest_horizon(kind: Kind, rows: &[Row], random: &mut Random) -> u64 {
     match kind {
         Kind::Brimming if random.once_in(16) => 2_000_000 / rows.len() as u64,
         Kind::Far => random.one_of(&[LARGEST, 1_500_000, 1_500_000, 1_500_000]),
+        Kind::Close => random.one_of(&[20_000, 150_000, 500_000]),
         Kind::Tiny | Kind::Full => 400,
         _ => 1500,
     }

@@ -9,10 +9,11 @@ use crate::threads::of_each;
 use crate::trial::Trial;
 use crate::worked;
 use crate::wrong::{wrong_programs, By, Wrong};
+use std::cmp::Reverse;
 use std::time::Duration;
 
 /// How long a call that catches a wrong program is shrunk.
-const SHRINKING: Duration = Duration::from_millis(150);
+const SHRINKING: Duration = Duration::from_millis(80);
 
 /// All groups of the comparison, in how many rounds, and from which seed.
 struct Run<'a> {
@@ -22,11 +23,16 @@ struct Run<'a> {
 }
 
 impl Run<'_> {
-    /// The first check that catches a wrong program, if one does, among the groups that are about a subject.
+    /// A check that catches a wrong program, if one does, among the groups that are meant; in each round those of quick calls, of
+    /// which there are many, come first.
     fn caught(&self, trial: Trial, is_meant: impl Fn(&Group) -> bool) -> Option<Found> {
-        let places = || (0..self.groups.len()).filter(|&place| is_meant(&self.groups[place]));
+        let mut places: Vec<usize> = (0..self.groups.len())
+            .filter(|&place| is_meant(&self.groups[place]))
+            .collect();
+        places.sort_by_key(|&place| Reverse(self.groups[place].checks));
         let in_round = |round: u64| {
-            places().find_map(|place| group_round(trial, self.groups, place, self.seed, round))
+            let caught = |&place: &usize| group_round(trial, self.groups, place, self.seed, round);
+            places.iter().find_map(caught)
         };
         (0..self.rounds).find_map(in_round)
     }
@@ -44,7 +50,7 @@ impl Run<'_> {
     /// How a wrong program is caught by the checks that it is there for, in words, if it is.
     fn how_caught(&self, wrong: &Wrong) -> Option<String> {
         match &wrong.by {
-            By::Answers => self.caught_told(wrong, Group::holds_answers),
+            By::Answers(entries) => self.caught_told(wrong, |group| group.holds_answers(entries)),
             By::Relation(name) => self.caught_told(wrong, |group| group.is_by(name)),
             By::NearTexts(entry) => near::first_difference(&wrong.program, *entry),
             By::Case(case) => case.second_wrong(&wrong.program),
@@ -55,7 +61,10 @@ impl Run<'_> {
     fn told(&self, wrong: &Wrong) -> (bool, String) {
         match self.how_caught(wrong) {
             None => (false, format!("NOT CAUGHT: a program that {}", wrong.slip)),
-            Some(how) => (true, format!("a program that {} is caught: {how}", wrong.slip)),
+            Some(how) => (
+                true,
+                format!("a program that {} is caught: {how}", wrong.slip),
+            ),
         }
     }
 }

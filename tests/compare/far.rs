@@ -8,8 +8,8 @@
 use crate::cases::{one_processor, one_row, refined, Case};
 use crate::threads::of_each;
 use crate::wrong::{
-    busy_climb, busy_sum, clean_horizon, deadline_search, demand_sum, passes, quick_rta_sum,
-    rta_part, rta_sum, work_quotient, Slip,
+    begun_quotient, busy_climb, busy_sum, clean_horizon, deadline_search, demand_product,
+    demand_quotient, demand_sum, passes, quick_rta_sum, rta_part, rta_sum, work_quotient, Slip,
 };
 use second::call::Entry;
 use second::program::DOCUMENT;
@@ -23,28 +23,28 @@ const MOST: u32 = 1_000_000;
 /// The largest horizon.
 const HORIZON: u32 = 16_777_216;
 
-/// A case far out, whether the second program is asked as well, and a slip that the case must show.
+/// A case far out, whether the second program is asked as well, and the slips that the case must show.
 pub struct Far {
     pub case: Case,
     second_asked: bool,
-    pub slip: Slip,
+    pub slips: Vec<Slip>,
 }
 
 /// A case that the second program answers soon enough.
-fn asked_of_both(case: Case, slip: Slip) -> Far {
+fn asked_of_both(case: Case, slips: &[Slip]) -> Far {
     Far {
         case,
         second_asked: true,
-        slip,
+        slips: slips.to_vec(),
     }
 }
 
 /// A case that the second program takes minutes for: only the proved program is asked.
-fn asked_of_one(case: Case, slip: Slip) -> Far {
+fn asked_of_one(case: Case, slips: &[Slip]) -> Far {
     Far {
         case,
         second_asked: false,
-        slip,
+        slips: slips.to_vec(),
     }
 }
 
@@ -64,6 +64,30 @@ fn twins_and_one(count: usize, twin: [u32; 3], other: [u32; 3]) -> Vec<u32> {
     [twin.repeat(count), other.to_vec()].concat()
 }
 
+/// The slips that a late miss of rows with tiny periods must show.
+const LATE: [Slip; 5] = [
+    ("gives up a search after a million deadlines", |program| {
+        program.verdict = deadline_search::<1_000_000>
+    }),
+    ("keeps the periods of a demand in 16 bits", |program| {
+        program.demand = demand_quotient::<16>
+    }),
+    ("keeps the periods of a demand in 22 bits", |program| {
+        program.demand = demand_quotient::<22>
+    }),
+    ("keeps a row's demand in 22 bits", |program| {
+        program.demand = demand_product::<22>
+    }),
+    ("keeps the demand in 22 bits", |program| {
+        program.misses = demand_sum::<22>
+    }),
+];
+
+/// Fits, where nothing but the horizon is clean.
+const CLEAN: Slip = ("says fits because the horizon was clean", |program| {
+    program.verdict = clean_horizon
+});
+
 /// Late misses.
 fn misses() -> Vec<Far> {
     let late = words_of(&late_miss());
@@ -71,27 +95,29 @@ fn misses() -> Vec<Far> {
     vec![
         asked_of_both(
             one_processor("a miss at 16,231,278", &late, HORIZON, 1, 16_231_278),
-            ("gives up a search after a million deadlines", |program| {
-                program.verdict = deadline_search::<1_000_000>
-            }),
+            &LATE,
         ),
         asked_of_both(
             one_processor("no miss before 16,231,278", &late, 16_231_277, 0, 0),
-            ("says fits because the horizon was clean", |program| {
-                program.verdict = clean_horizon
-            }),
+            &[CLEAN],
         ),
         asked_of_both(
-            one_processor("a demand above 2^24", &LATE_AND_LARGE, HORIZON, 1, 16_777_215),
-            ("keeps the sheet's demand in 24 bits", |program| {
+            one_processor(
+                "a demand above 2^24",
+                &LATE_AND_LARGE,
+                HORIZON,
+                1,
+                16_777_215,
+            ),
+            &[("keeps the demand in 24 bits", |program| {
                 program.misses = demand_sum::<24>
-            }),
+            })],
         ),
         asked_of_both(
             one_processor("a demand above 2^25", &brimming, MOST, 1, 1_000_000),
-            ("keeps the sheet's demand in 25 bits", |program| {
+            &[("keeps the demand in 25 bits", |program| {
                 program.misses = demand_sum::<25>
-            }),
+            })],
         ),
     ]
 }
@@ -101,28 +127,37 @@ fn busy_lengths() -> Vec<Far> {
     let near = words_of(&nearly_one(MOST as u64));
     vec![
         asked_of_both(
-            one_processor("busy up to 15,030,000", &LONG_BUSY, 15_030_000, 2, 15_030_000),
-            ("gives up a busy climb after 500 steps", |program| {
+            one_processor(
+                "busy up to 15,030,000",
+                &LONG_BUSY,
+                15_030_000,
+                2,
+                15_030_000,
+            ),
+            &[("gives up a busy climb after 500 steps", |program| {
                 program.verdict = busy_climb::<500>
-            }),
+            })],
         ),
         asked_of_both(
             one_processor("busy past 15,029,999", &LONG_BUSY, 15_029_999, 0, 0),
-            ("says fits because the horizon was clean", |program| {
-                program.verdict = clean_horizon
-            }),
+            &[CLEAN],
         ),
         asked_of_both(
             one_processor("busy up to 2^24", &BUSY_TO_THE_END, HORIZON, 2, 16_777_216),
-            ("keeps the cost of jobs begun in 24 bits", |program| {
+            &[("keeps the cost begun in 24 bits", |program| {
                 program.fills = busy_sum::<24>
-            }),
+            })],
         ),
         asked_of_both(
             one_processor("busy up to 998,718", &near, MOST, 2, 998_718),
-            ("gives up a busy climb after 10,000 steps", |program| {
-                program.verdict = busy_climb::<10_000>
-            }),
+            &[
+                ("gives up a busy climb after 10,000 steps", |program| {
+                    program.verdict = busy_climb::<10_000>
+                }),
+                ("keeps the jobs begun in 18 bits", |program| {
+                    program.jobs_begun = begun_quotient::<18>
+                }),
+            ],
         ),
     ]
 }
@@ -136,66 +171,115 @@ fn meeting_twins(name: &'static str, cost: u32, long: u32, processors: u32, boun
 
 /// Sums by RTA up to the largest that there are.
 fn sums() -> Vec<Far> {
-    let largest = |name| meeting_twins(name, MOST - 1, MOST, 63, 1_000_000);
     vec![
         asked_of_both(
-            largest("the largest sum"),
-            ("keeps RTA's sum in 24 bits", |program| program.rta = rta_sum::<24>),
-        ),
-        asked_of_both(
-            largest("the largest sum"),
-            ("keeps RTA's sum in 25 bits", |program| program.rta = rta_sum::<25>),
+            meeting_twins("the largest sum", MOST - 1, MOST, 63, 1_000_000),
+            &[
+                ("keeps RTA's sum in 24 bits", |program| {
+                    program.rta = rta_sum::<24>
+                }),
+                ("keeps RTA's sum in 25 bits", |program| {
+                    program.rta = rta_sum::<25>
+                }),
+            ],
         ),
         asked_of_both(
             meeting_twins("a part just past 2^22", 68_000, 100_000, 1, 0),
-            ("keeps a processor's part by RTA in 22 bits", |program| {
+            &[("keeps RTA's part in 22 bits", |program| {
                 program.rta = rta_part::<22>
-            }),
+            })],
         ),
         asked_of_both(
             meeting_twins("a part just past 2^24", 275_000, MOST, 1, 0),
-            ("keeps a processor's part by RTA in 24 bits", |program| {
+            &[("keeps RTA's part in 24 bits", |program| {
                 program.rta = rta_part::<24>
-            }),
+            })],
         ),
         asked_of_both(
             meeting_twins("a part just past 2^25", 542_134, MOST, 1, 0),
-            ("keeps a processor's part by RTA in 25 bits", |program| {
+            &[("keeps RTA's part in 25 bits", |program| {
                 program.rta = rta_part::<25>
-            }),
+            })],
         ),
     ]
 }
 
-/// Whole sheets by an engine: large sums, tiny and huge periods, many passes.
-fn sheets_by(engine: Entry) -> Vec<Far> {
+/// 63 middling rows and a small one by an engine: large sums.
+fn crowd_by(engine: Entry) -> Far {
     let crowd = twins_and_one(63, [600_000, MOST, MOST], [1, MOST, MOST]);
-    let crowd_bounds = [vec![MOST; 63], vec![945_001]].concat();
+    let bounds = [vec![MOST; 63], vec![945_001]].concat();
+    asked_of_one(
+        refined(
+            "63 middling rows and a small one",
+            engine,
+            &crowd,
+            40,
+            1 << 63,
+            &bounds,
+        ),
+        &[("keeps RTA's sum in 25 bits", |program| {
+            program.rta = quick_rta_sum::<25>
+        })],
+    )
+}
+
+/// A huge period and a tiny one by an engine.
+fn uneven_by(engine: Entry) -> Far {
     let uneven = [400_000, MOST, MOST, 1, 2, 2];
+    asked_of_both(
+        refined(
+            "a huge period and a tiny one",
+            engine,
+            &uneven,
+            1,
+            3,
+            &[800_000, 1],
+        ),
+        &[("keeps the periods of W in 18 bits", |program| {
+            program.work = work_quotient::<18>
+        })],
+    )
+}
+
+/// A pair that takes 5,003 passes at once, and 10,003 in rounds, by an engine.
+fn pair_by(engine: Entry) -> Far {
     let pair = words_of(&climbing_pair(5_001));
-    vec![
-        asked_of_one(
-            refined("63 middling rows and a small one", engine, &crowd, 40, 1 << 63, &crowd_bounds),
-            ("keeps RTA's sum in 25 bits", |program| program.rta = quick_rta_sum::<25>),
+    asked_of_both(
+        refined(
+            "a pair that takes 5,003 passes",
+            engine,
+            &pair,
+            1,
+            3,
+            &[10_001, 15_003],
         ),
-        asked_of_both(
-            refined("a huge period and a tiny one", engine, &uneven, 1, 3, &[800_000, 1]),
-            ("keeps the periods of W in 18 bits", |program| {
-                program.work = work_quotient::<18>
+        &[
+            ("stops after 1,000 passes", |program| {
+                program.refined = passes::<1_000>
             }),
-        ),
-        asked_of_both(
-            refined("a pair that takes 5,003 passes", engine, &pair, 1, 3, &[10_001, 15_003]),
-            ("stops after 5,000 passes", |program| program.refined = passes::<5_000>),
-        ),
-    ]
+            ("stops after 2,000 passes", |program| {
+                program.refined = passes::<2_000>
+            }),
+            ("stops after 5,000 passes", |program| {
+                program.refined = passes::<5_000>
+            }),
+        ],
+    )
 }
 
 /// Every case far out.
 pub fn cases() -> Vec<Far> {
-    let engines = [Entry::RefineRounds, Entry::RefineAtOnce].into_iter();
-    let groups = [misses(), busy_lengths(), sums()].into_iter();
-    groups.chain(engines.map(sheets_by)).flatten().collect()
+    let by_engine = |engine| vec![crowd_by(engine), uneven_by(engine), pair_by(engine)];
+    [
+        misses(),
+        busy_lengths(),
+        sums(),
+        by_engine(Entry::RefineRounds),
+        by_engine(Entry::RefineAtOnce),
+    ]
+    .into_iter()
+    .flatten()
+    .collect()
 }
 
 /// The cases that one of the programs answers otherwise.

@@ -38,6 +38,21 @@ pub const ENTRIES: [(Entry, &str); 8] = [
     (Entry::AnswerSheet, "answer a sheet"),
 ];
 
+/// Every entry.
+pub const EVERY_ENTRY: [Entry; 8] = {
+    use Entry::*;
+    [
+        OneRow,
+        RefineRounds,
+        RefineAtOnce,
+        OneProcessor,
+        ReadSheet,
+        WriteSheet,
+        WriteResult,
+        AnswerSheet,
+    ]
+};
+
 /// An entry's name in words.
 pub fn entry_name(entry: Entry) -> &'static str {
     let named = ENTRIES.iter().find(|(listed, _)| *listed == entry);
@@ -63,15 +78,16 @@ fn checks_of_kind(kind: Kind) -> usize {
         Kind::Edges | Kind::Exponential => 5,
         Kind::Light | Kind::Heavy | Kind::Large => 3,
         Kind::Brimming => 2,
-        Kind::Far | Kind::Late | Kind::Crowd | Kind::Uneven => 1,
+        Kind::Far | Kind::Late | Kind::Crowd | Kind::Uneven | Kind::Close => 1,
     }
 }
 
 /// The checks of an entry on a kind in a round. Rows that leave one processor busy for long are not refined: value by value, two
-/// of them can take days.
+/// of them can take days. Where large sums are met, one row is asked about more often than a whole sheet is refined.
 fn checks_of_entry(entry: Entry, kind: Kind) -> usize {
     match kind {
-        Kind::Far if refines(entry) => 0,
+        Kind::Far | Kind::Close if refines(entry) => 0,
+        Kind::Brimming | Kind::Crowd | Kind::Uneven if entry == Entry::OneRow => 5,
         Kind::Heavy if refines(entry) => 1,
         _ => checks_of_kind(kind),
     }
@@ -129,9 +145,9 @@ impl Group {
         }
     }
 
-    /// Whether the group holds answers against the second program's.
-    pub fn holds_answers(&self) -> bool {
-        matches!(self.look, Look::Answer { .. })
+    /// Whether the group holds answers of one of these entries against the second program's.
+    pub fn holds_answers(&self, entries: &[Entry]) -> bool {
+        matches!(self.look, Look::Answer { .. }) && entries.contains(&self.entry)
     }
 
     /// Whether the group holds answers against each other by the relation of a name.

@@ -82,7 +82,11 @@ fn one_group(what: &str, found: Vec<String>) -> (usize, usize) {
 /// Everything compared: the numbers worked by hand, the cases far out, every text near a sheet's, random calls, and that all kinds
 /// of answer were met and slow sheets are slow.
 fn compare_all(all: &[Group], cases: u64, seed: u64) -> (usize, usize) {
-    let near = |entry: Entry| near::first_difference(&DOCUMENT, entry).into_iter().collect();
+    let near = |entry: Entry| {
+        near::first_difference(&DOCUMENT, entry)
+            .into_iter()
+            .collect()
+    };
     let parts = [
         one_group(
             "WORKED BY HAND",

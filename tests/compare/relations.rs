@@ -108,13 +108,7 @@ fn asked(call: &Call, entry: Entry) -> Call {
 }
 
 /// What refining by an engine and a method gives.
-fn refined(
-    trial: Trial,
-    call: &Call,
-    entry: Entry,
-    method: u32,
-    random: &mut Random,
-) -> Seen {
+fn refined(trial: Trial, call: &Call, entry: Entry, method: u32, random: &mut Random) -> Seen {
     trial.made(
         &Call {
             method,

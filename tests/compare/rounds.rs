@@ -56,12 +56,7 @@ pub fn group_round(
 }
 
 /// What was found, shrunk within some time to the smallest call that still shows it, and what is wrong there.
-pub fn smallest(
-    trial: Trial,
-    groups: &[Group],
-    found: &Found,
-    time: Duration,
-) -> (Call, String) {
+pub fn smallest(trial: Trial, groups: &[Group], found: &Found, time: Duration) -> (Call, String) {
     let group = &groups[found.group];
     let trouble = |call: &Call| group.trouble(trial, call, &mut Random::of([1]));
     let call = shrunk(&found.call, time, |tried| trouble(tried).is_some());

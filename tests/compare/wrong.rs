@@ -24,10 +24,14 @@ mod text;
 
 use crate::cases::Case;
 use crate::far;
+use crate::groups::EVERY_ENTRY;
 use crate::relations::RELATIONS;
 pub use demand::clean_horizon;
 pub use given_up::{busy_climb, deadline_search, passes};
-pub use narrow::{busy_sum, demand_sum, quick_rta_sum, rta_part, rta_sum, work_quotient};
+pub use narrow::{
+    begun_quotient, busy_sum, demand_product, demand_quotient, demand_sum, quick_rta_sum, rta_part,
+    rta_sum, work_quotient,
+};
 use second::call::Entry;
 use second::program::{Program, DOCUMENT};
 
@@ -36,8 +40,8 @@ pub type Slip = (&'static str, fn(&mut Program));
 
 /// The checks that a wrong program is there for.
 pub enum By {
-    /// Answers held against the proved program's.
-    Answers,
+    /// Answers of these entries held against the proved program's.
+    Answers(&'static [Entry]),
     /// Answers held against each other, by the relation of this name.
     Relation(&'static str),
     /// Every text near a sheet's, by an entry that reads texts.
@@ -60,31 +64,50 @@ fn with((slip, exchange): Slip, by: By) -> Wrong {
     Wrong { slip, program, by }
 }
 
-/// The slips that answers must show.
-fn in_answers() -> Vec<Slip> {
-    let lists = [
-        &analysis::SLIPS[..],
+/// The wrong programs whose slips the answers of these entries must show.
+fn in_answers(entries: &'static [Entry], slips: &[Slip]) -> Vec<Wrong> {
+    let shown = |&slip: &Slip| with(slip, By::Answers(entries));
+    slips.iter().map(shown).collect()
+}
+
+/// The entries that refine.
+const REFINING: [Entry; 3] = [Entry::RefineRounds, Entry::RefineAtOnce, Entry::WriteResult];
+
+/// The wrong programs whose slips answers must show.
+fn shown_in_answers() -> Vec<Wrong> {
+    let every: [&[Slip]; 7] = [
+        &analysis::SLIPS,
         &demand::SLIPS,
         &quick::SLIPS,
         &text::SLIPS,
         &checks::SLIPS,
         &late::SLIPS,
-        &given_up::SLIPS,
+        &taken::slips(),
     ];
-    [lists.concat(), narrow::slips(), taken::slips()].concat()
+    [
+        in_answers(&EVERY_ENTRY, &every.concat()),
+        in_answers(&[Entry::OneRow], &narrow::in_one_row()),
+        in_answers(&[Entry::OneProcessor], &narrow::on_one_processor()),
+        in_answers(&REFINING, &given_up::PASSES),
+        in_answers(&[Entry::OneProcessor], &given_up::SEARCHES),
+    ]
+    .into_iter()
+    .flatten()
+    .collect()
 }
 
 /// Every wrong program: of each relation, each entry that reads texts, and each fixed case at least one.
 pub fn wrong_programs() -> Vec<Wrong> {
-    let answers = in_answers().into_iter().map(|slip| with(slip, By::Answers));
     let relations = RELATIONS
         .iter()
         .map(|relation| with(related::slip(relation.name), By::Relation(relation.name)));
     let texts = [Entry::ReadSheet, Entry::AnswerSheet]
         .into_iter()
         .flat_map(|entry| text::NEAR.map(|slip| with(slip, By::NearTexts(entry))));
-    let far = far::cases()
-        .into_iter()
-        .map(|far| with(far.slip, By::Case(far.case)));
-    answers.chain(relations).chain(texts).chain(far).collect()
+    let far = far::cases().into_iter().flat_map(|far| {
+        let shown = move |slip: Slip| with(slip, By::Case(far.case.clone()));
+        far.slips.into_iter().map(shown)
+    });
+    let others = relations.chain(texts).chain(far);
+    shown_in_answers().into_iter().chain(others).collect()
 }

@@ -1,5 +1,5 @@
 //! Sheets at the far ends: sums as large as the sizes allow, sums just past a power of two, tiny and huge periods beside each
-//! other, and rows that only late ones keep from being accepted.
+//! other, rows that only late ones keep from being accepted, and rows that decide late.
 
 use second::random::Random;
 use second::rows::{Row, Sheet};
@@ -61,14 +61,22 @@ fn costs_of(random: &mut Random, total: u64, count: u64, limit: u64) -> Vec<u64>
     costs
 }
 
-/// How much the costs of a brimming sheet come to: a power of two from 2^10 to 2^25 and a little, for each processor or for all.
-fn brimming_total(random: &mut Random, processors: u64) -> u64 {
+/// What the costs of a brimming sheet just pass: a power of two from 2^10 to 2^25, for each processor or for all.
+fn brim(random: &mut Random, processors: u64) -> u64 {
     let power = 1 << random.within(10, 25);
-    let over = random.within(1, 400);
     if power * processors <= 50 * LARGEST {
-        random.one_of(&[1, processors]) * power + over
+        random.one_of(&[1, processors]) * power
     } else {
-        power + over
+        power
+    }
+}
+
+/// How far the costs of so many rows, with an even part each, pass the brim: by a little, or by a little more than one of them.
+fn past_the_brim(random: &mut Random, count: u64, even: u64) -> u64 {
+    if count >= 20 && random.once_in(2) {
+        even + even / 20 + 300
+    } else {
+        random.within(1, 400)
     }
 }
 
@@ -77,10 +85,12 @@ fn brimming_total(random: &mut Random, processors: u64) -> u64 {
 pub fn brimming(random: &mut Random) -> Sheet {
     let many = random.within(1, 64);
     let processors = random.one_of(&[1, 1, 2, many]);
-    let total = brimming_total(random, processors);
-    let fewest = (total / 900_000 + 1).max(2);
+    let brim = brim(random, processors);
+    let fewest = (brim / 900_000 + 1).max(2);
     let count = random.within(fewest, 63);
-    let period = (total / count + total / count / 16 + 500).min(LARGEST);
+    let even = brim / count;
+    let total = brim + past_the_brim(random, count, even);
+    let period = (even + even / 16 + 500).min(LARGEST);
     let costs = costs_of(random, total, count, period - 3);
     let due_at_once = random.once_in(2);
     let full = |&cost: &u64| Row {
@@ -157,5 +167,29 @@ pub fn uneven(random: &mut Random) -> Sheet {
     Sheet {
         rows,
         processors: random.within(1, 3),
+    }
+}
+
+/// Two rows of tiny periods that leave a sixth of one processor, and two long rows that take just more of it, or just less, in any
+/// order: a miss comes late, or the busy length is long.
+pub fn close(random: &mut Random) -> Sheet {
+    let row = |cost: u64, period: u64| Row {
+        cost,
+        deadline: period,
+        period,
+    };
+    let (first, last) = (random.within(100, 3_000), random.within(100, 3_000));
+    let cost = random.within(1, first / 8);
+    let free = last as f64 * (1.0 / 6.0 - cost as f64 / first as f64);
+    let filling = free as u64 + random.within(0, 1);
+    let rows = [
+        row(1, 2),
+        row(1, 3),
+        row(cost, first),
+        row(filling.max(1), last),
+    ];
+    Sheet {
+        rows: random.order(4).iter().map(|&place| rows[place]).collect(),
+        processors: 1,
     }
 }

@@ -39,10 +39,12 @@ pub enum Kind {
     Crowd,
     /// Tiny and huge periods beside each other.
     Uneven,
+    /// Utilisation close to 1, by tiny periods and two long ones: late misses and long busy lengths.
+    Close,
 }
 
 /// Every kind.
-pub const KINDS: [Kind; 16] = [
+pub const KINDS: [Kind; 17] = [
     Kind::Tiny,
     Kind::Middle,
     Kind::Edges,
@@ -59,6 +61,7 @@ pub const KINDS: [Kind; 16] = [
     Kind::Brimming,
     Kind::Crowd,
     Kind::Uneven,
+    Kind::Close,
 ];
 
 /// A random sheet of a kind.
@@ -80,5 +83,6 @@ pub fn sheet(kind: Kind, random: &mut Random) -> Sheet {
         Kind::Brimming => ends::brimming(random),
         Kind::Crowd => ends::crowd(random),
         Kind::Uneven => ends::uneven(random),
+        Kind::Close => ends::close(random),
     }
 }

@@ -6,9 +6,9 @@ use crate::families::{
 use second::random::Random;
 use second::rows::{Row, Sheet};
 
-/// A step of the climbing pair: most are small, and once in forty times one takes 500 passes and more.
+/// A step of the climbing pair: most are small, and once in a hundred times one takes 500 passes and more.
 fn step(random: &mut Random) -> u64 {
-    if random.once_in(40) {
+    if random.once_in(100) {
         random.within(500, 2_500)
     } else {
         random.within(10, 350)

@@ -6,25 +6,26 @@ use second::program::Program;
 use second::refine::{first_bounds, pass};
 use second::rows::{Row, Sheet};
 
-/// The slips: what a wrong program does, and the part that is exchanged.
-pub const SLIPS: [Slip; 8] = [
+/// The slips in refining: what a wrong program does, and the part that is exchanged.
+pub const PASSES: [Slip; 2] = [
     ("stops after 100 passes", |program| {
         program.refined = passes::<100>
     }),
     ("stops after 500 passes", |program| {
         program.refined = passes::<500>
     }),
-    ("stops after 1,000 passes", |program| {
-        program.refined = passes::<1_000>
-    }),
-    ("stops after 2,000 passes", |program| {
-        program.refined = passes::<2_000>
-    }),
+];
+
+/// The slips on one processor.
+pub const SEARCHES: [Slip; 5] = [
     ("gives up a busy climb after 10 steps", |program| {
         program.verdict = busy_climb::<10>
     }),
     ("gives up a busy climb after 50 steps", |program| {
         program.verdict = busy_climb::<50>
+    }),
+    ("gives up a busy climb after 200 steps", |program| {
+        program.verdict = busy_climb::<200>
     }),
     ("gives up a search after 100 deadlines", |program| {
         program.verdict = deadline_search::<100>
@@ -61,11 +62,7 @@ pub fn busy_climb<const STEPS: usize>(program: &Program, rows: &[Row], horizon: 
 }
 
 /// A miss only where few deadlines come before it.
-pub fn deadline_search<const COUNT: u64>(
-    program: &Program,
-    rows: &[Row],
-    horizon: u64,
-) -> Verdict {
+pub fn deadline_search<const COUNT: u64>(program: &Program, rows: &[Row], horizon: u64) -> Verdict {
     let due_within = |length: u64| -> u64 {
         let due = |row: &Row| (length + row.period - row.deadline) / row.period;
         rows.iter().map(due).sum()

@@ -1,6 +1,7 @@
 //! Slips with rows at late places.
 
 use super::Slip;
+use second::call::Call;
 use second::checks;
 use second::program::Program;
 use second::refine::{accepted, is_marked, marks};
@@ -41,10 +42,10 @@ pub const SLIPS: [Slip; 14] = [
         program.bad_row = |program, rows| checks::bad_row(program, rows).map(|place| place & 31)
     }),
     ("leaves row 63's bound unchecked", |program| {
-        program.question_wrong = bounds_of_first::<63>
+        program.taken = bounds_of_first::<63>
     }),
     ("leaves bounds from row 48 on unchecked", |program| {
-        program.question_wrong = bounds_of_first::<48>
+        program.taken = bounds_of_first::<48>
     }),
     ("refuses to ask about row 63", |program| {
         program.question_wrong =
@@ -65,10 +66,12 @@ fn bad_in_first<const COUNT: usize>(program: &Program, rows: &[Row]) -> Option<u
     checks::bad_row(program, &rows[..rows.len().min(COUNT)])
 }
 
-/// The one-row question checked but for the bounds behind the first rows.
-fn bounds_of_first<const COUNT: usize>(rows: &[Row], bounds: &[u32], row: u32) -> bool {
-    let costs = rows.iter().map(|row| row.cost as u32);
-    let late = costs.take(bounds.len()).skip(COUNT);
-    let bounds: Vec<u32> = bounds.iter().take(COUNT).copied().chain(late).collect();
-    checks::question_wrong(rows, &bounds, row)
+/// The call with its bounds behind the first rows brought within their rows' cost to deadline.
+fn bounds_of_first<const COUNT: usize>(call: &Call) -> Call {
+    let mut taken = call.clone();
+    let rows = call.words.chunks_exact(3);
+    for (bound, row) in taken.bounds.iter_mut().zip(rows).skip(COUNT) {
+        *bound = (*bound).min(row[1]).max(row[0]);
+    }
+    taken
 }

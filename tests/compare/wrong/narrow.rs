@@ -6,24 +6,36 @@ use second::one_row::{bcl, rta};
 use second::program::Program;
 use second::rows::{Row, Sheet};
 
-/// The slips: what a wrong program does, and the part that is exchanged.
-pub fn slips() -> Vec<Slip> {
-    let lists: [&[Slip]; 15] = [
+/// The slips in the one-row answer: what a wrong program does, and the part that is exchanged.
+pub fn in_one_row() -> Vec<Slip> {
+    let lists: [&[Slip]; 10] = [
         &kept_in!("BCL's sum", bcl, bcl_sum, [12, 16, 18, 20, 22, 24, 25]),
         &kept_in!("RTA's sum", rta, rta_sum, [12, 16, 18, 20, 22]),
-        &kept_in!("a processor's part by BCL", bcl, bcl_part, [12, 16, 18, 20, 22, 24, 25]),
-        &kept_in!("a processor's part by RTA", rta, rta_part, [12, 16, 18, 20]),
+        &kept_in!("BCL's part", bcl, bcl_part, [12, 16, 18, 20, 22, 24, 25]),
+        &kept_in!("RTA's part", rta, rta_part, [12, 16, 18, 20]),
         &kept_in!("the periods of I", share, share_quotient, [12, 16, 18]),
         &kept_in!("the whole jobs of I", share, share_product, [12, 16, 18]),
-        &kept_in!("the periods of W", work, work_quotient, [12, 16, 18]),
+        &kept_in!("the periods of W", work, work_quotient, [12, 16]),
         &kept_in!("the whole jobs of W", work, work_product, [12, 16, 18]),
         &kept_in!("the window of W", work, work_reach, [12, 16, 18, 20]),
-        &kept_in!("the periods of a demand", demand, demand_quotient, [12, 16]),
-        &kept_in!("a row's demand", demand, demand_product, [12, 16, 18, 20, 22]),
-        &kept_in!("the sheet's demand", misses, demand_sum, [12, 16, 18, 20, 22]),
+        &kept_in!("RTA's bound", rta, rta_bound, [12, 16, 18]),
+    ];
+    lists.concat()
+}
+
+/// The slips on one processor.
+pub fn on_one_processor() -> Vec<Slip> {
+    let lists: [&[Slip]; 5] = [
+        &kept_in!("the periods of a demand", demand, demand_quotient, [12]),
+        &kept_in!("a row's demand", demand, demand_product, [12, 16, 18]),
+        &kept_in!("the demand", misses, demand_sum, [12, 16, 18, 20]),
         &kept_in!("the jobs begun", jobs_begun, begun_quotient, [12, 16]),
-        &kept_in!("the cost of jobs begun", fills, busy_sum, [12, 16, 18, 20, 22, 24, 25]),
-        &kept_in!("a bound", rta, rta_bound, [12, 16, 18]),
+        &kept_in!(
+            "the cost begun",
+            fills,
+            busy_sum,
+            [12, 16, 18, 20, 22, 24, 25]
+        ),
     ];
     lists.concat()
 }
@@ -115,7 +127,9 @@ fn rta_bound<const BITS: u32>(
 /// What is left of a window behind its whole periods, as far as it counts in I.
 fn share_left(other: Row, bound: u64, window: u64) -> u64 {
     let slack = other.deadline - bound;
-    (window % other.period).saturating_sub(slack).min(other.cost)
+    (window % other.period)
+        .saturating_sub(slack)
+        .min(other.cost)
 }
 
 /// I with its periods cut.
@@ -147,13 +161,13 @@ fn work_reach<const BITS: u32>(other: Row, bound: u64, length: u64) -> u64 {
 }
 
 /// Demand with its periods cut.
-fn demand_quotient<const BITS: u32>(row: Row, length: u64) -> u64 {
+pub fn demand_quotient<const BITS: u32>(row: Row, length: u64) -> u64 {
     let periods = |after: u64| cut::<BITS>(after / row.period) + 1;
     length.checked_sub(row.deadline).map_or(0, periods) * row.cost
 }
 
 /// Demand cut.
-fn demand_product<const BITS: u32>(row: Row, length: u64) -> u64 {
+pub fn demand_product<const BITS: u32>(row: Row, length: u64) -> u64 {
     let jobs = |after: u64| after / row.period + 1;
     cut::<BITS>(length.checked_sub(row.deadline).map_or(0, jobs) * row.cost)
 }
@@ -164,7 +178,7 @@ pub fn demand_sum<const BITS: u32>(demand: u64, length: u64) -> bool {
 }
 
 /// The jobs that can begin within a length, cut.
-fn begun_quotient<const BITS: u32>(row: Row, length: u64) -> u64 {
+pub fn begun_quotient<const BITS: u32>(row: Row, length: u64) -> u64 {
     cut::<BITS>(length.div_ceil(row.period))
 }
 

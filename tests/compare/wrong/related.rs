@@ -54,9 +54,12 @@ const SLIPS: [(&str, Slip); 9] = [
     ),
     (
         "a processor more is never worse",
-        ("takes two processors for three and three for two", |program| {
-            program.divided = |sum, processors| sum / (processors ^ (processors & 2) >> 1)
-        }),
+        (
+            "takes two processors for three and three for two",
+            |program| {
+                program.divided = |sum, processors| sum / (processors ^ (processors & 2) >> 1)
+            },
+        ),
     ),
     (
         "a sheet written and read is the same",
@@ -82,12 +85,7 @@ fn rounds_by_bcl(call: &Call) -> Call {
 }
 
 /// RTA with the sum's part rounded up.
-fn rounded_up(
-    program: &Program,
-    sheet: &Sheet,
-    asked: usize,
-    bounds: &[u64],
-) -> Option<u64> {
+fn rounded_up(program: &Program, sheet: &Sheet, asked: usize, bounds: &[u64]) -> Option<u64> {
     let program = Program {
         divided: u64::div_ceil,
         ..*program

@@ -29,7 +29,11 @@ fn cut_word<const BITS: u32>(word: u32) -> u32 {
 
 /// Elements and what is lent behind them, seen with their length cut: those that are left, and what is left behind them.
 fn cut_list<T: Clone, const BITS: u32>(elements: &[T], behind: usize) -> (Vec<T>, usize) {
-    shorter(elements, behind, cut::<BITS>((elements.len() + behind) as u64) as usize)
+    shorter(
+        elements,
+        behind,
+        cut::<BITS>((elements.len() + behind) as u64) as usize,
+    )
 }
 
 /// Elements and what is lent behind them up to a length.
