@@ -154,6 +154,9 @@ fn busy_lengths() -> Vec<Far> {
                 ("gives up a busy climb after 10,000 steps", |program| {
                     program.verdict = busy_climb::<10_000>
                 }),
+                ("keeps the jobs begun in 16 bits", |program| {
+                    program.jobs_begun = begun_quotient::<16>
+                }),
                 ("keeps the jobs begun in 18 bits", |program| {
                     program.jobs_begun = begun_quotient::<18>
                 }),

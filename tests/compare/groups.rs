@@ -39,7 +39,7 @@ pub const ENTRIES: [(Entry, &str); 8] = [
 ];
 
 /// Every entry.
-pub const EVERY_ENTRY: [Entry; 8] = {
+pub static EVERY_ENTRY: [Entry; 8] = {
     use Entry::*;
     [
         OneRow,

@@ -70,12 +70,41 @@ fn in_answers(entries: &'static [Entry], slips: &[Slip]) -> Vec<Wrong> {
     slips.iter().map(shown).collect()
 }
 
-/// The entries that refine.
+/// The wrong programs whose slips the answers of each of these entries must show by themselves.
+fn in_each(entries: &'static [Entry], slips: &[Slip]) -> Vec<Wrong> {
+    let alone = entries.chunks(1);
+    alone.flat_map(|entry| in_answers(entry, slips)).collect()
+}
+
+/// The entries that refine rows lent as words.
 const REFINING: [Entry; 3] = [Entry::RefineRounds, Entry::RefineAtOnce, Entry::WriteResult];
 
-/// The wrong programs whose slips answers must show.
-fn shown_in_answers() -> Vec<Wrong> {
-    let every: [&[Slip]; 7] = [
+/// The entries that are given words.
+const WITH_WORDS: [Entry; 6] = [
+    Entry::OneRow,
+    Entry::RefineRounds,
+    Entry::RefineAtOnce,
+    Entry::OneProcessor,
+    Entry::WriteSheet,
+    Entry::WriteResult,
+];
+
+/// The entries that are given a text.
+const WITH_TEXT: [Entry; 2] = [Entry::ReadSheet, Entry::AnswerSheet];
+
+/// The entries that write.
+const WITH_ROOM: [Entry; 6] = [
+    Entry::RefineRounds,
+    Entry::RefineAtOnce,
+    Entry::ReadSheet,
+    Entry::WriteSheet,
+    Entry::WriteResult,
+    Entry::AnswerSheet,
+];
+
+/// The wrong programs whose slips answers must show, whichever entry gives them.
+fn shown_by_any() -> Vec<Wrong> {
+    let lists: [&[Slip]; 7] = [
         &analysis::SLIPS,
         &demand::SLIPS,
         &quick::SLIPS,
@@ -84,16 +113,23 @@ fn shown_in_answers() -> Vec<Wrong> {
         &late::SLIPS,
         &taken::slips(),
     ];
-    [
-        in_answers(&EVERY_ENTRY, &every.concat()),
+    in_answers(&EVERY_ENTRY, &lists.concat())
+}
+
+/// The wrong programs whose slips the answers of some entries must show, or of each of them.
+fn shown_by_some() -> Vec<Wrong> {
+    let lists = [
         in_answers(&[Entry::OneRow], &narrow::in_one_row()),
         in_answers(&[Entry::OneProcessor], &narrow::on_one_processor()),
         in_answers(&REFINING, &given_up::PASSES),
         in_answers(&[Entry::OneProcessor], &given_up::SEARCHES),
-    ]
-    .into_iter()
-    .flatten()
-    .collect()
+        in_each(&EVERY_ENTRY, &late::UNCHECKED),
+        in_each(&[Entry::WriteResult, Entry::AnswerSheet], &late::ACCEPTED),
+        in_each(&WITH_WORDS, &taken::in_words()),
+        in_each(&WITH_TEXT, &taken::in_text()),
+        in_each(&WITH_ROOM, &taken::in_room()),
+    ];
+    lists.into_iter().flatten().collect()
 }
 
 /// Every wrong program: of each relation, each entry that reads texts, and each fixed case at least one.
@@ -101,7 +137,7 @@ pub fn wrong_programs() -> Vec<Wrong> {
     let relations = RELATIONS
         .iter()
         .map(|relation| with(related::slip(relation.name), By::Relation(relation.name)));
-    let texts = [Entry::ReadSheet, Entry::AnswerSheet]
+    let texts = WITH_TEXT
         .into_iter()
         .flat_map(|entry| text::NEAR.map(|slip| with(slip, By::NearTexts(entry))));
     let far = far::cases().into_iter().flat_map(|far| {
@@ -109,5 +145,6 @@ pub fn wrong_programs() -> Vec<Wrong> {
         far.slips.into_iter().map(shown)
     });
     let others = relations.chain(texts).chain(far);
-    shown_in_answers().into_iter().chain(others).collect()
+    let answers = shown_by_any().into_iter().chain(shown_by_some());
+    answers.chain(others).collect()
 }

@@ -8,13 +8,7 @@ use second::refine::{accepted, is_marked, marks};
 use second::rows::Row;
 
 /// The slips: what a wrong program does, and the part that is exchanged.
-pub const SLIPS: [Slip; 14] = [
-    ("accepts without a look at row 63", |program| {
-        program.accepted = accepted_by_first::<63>
-    }),
-    ("accepts by the first 48 rows", |program| {
-        program.accepted = accepted_by_first::<48>
-    }),
+pub const SLIPS: [Slip; 9] = [
     ("accepts by the first 32 rows", |program| {
         program.accepted = accepted_by_first::<32>
     }),
@@ -28,15 +22,6 @@ pub const SLIPS: [Slip; 14] = [
         program.is_marked = |program, sheet, method, place, bounds| {
             place >= 48 || is_marked(program, sheet, method, place, bounds)
         }
-    }),
-    ("leaves row 63 unchecked", |program| {
-        program.bad_row = bad_in_first::<63>
-    }),
-    ("leaves rows from 48 on unchecked", |program| {
-        program.bad_row = bad_in_first::<48>
-    }),
-    ("leaves rows from 32 on unchecked", |program| {
-        program.bad_row = bad_in_first::<32>
     }),
     ("names a bad row by five bits of its place", |program| {
         program.bad_row = |program, rows| checks::bad_row(program, rows).map(|place| place & 31)
@@ -56,14 +41,43 @@ pub const SLIPS: [Slip; 14] = [
     }),
 ];
 
+/// The slips that every entry must show by itself.
+pub const UNCHECKED: [Slip; 3] = [
+    ("leaves the size of row 63 unchecked", |program| {
+        program.bad_row = bad_in_first::<63>
+    }),
+    ("leaves the sizes of rows from 48 on unchecked", |program| {
+        program.bad_row = bad_in_first::<48>
+    }),
+    ("leaves the sizes of rows from 32 on unchecked", |program| {
+        program.bad_row = bad_in_first::<32>
+    }),
+];
+
+/// The slips that every entry with a result sheet must show by itself.
+pub const ACCEPTED: [Slip; 2] = [
+    ("accepts without a look at row 63", |program| {
+        program.accepted = accepted_by_first::<63>
+    }),
+    ("accepts by the first 48 rows", |program| {
+        program.accepted = accepted_by_first::<48>
+    }),
+];
+
 /// Whether the first rows are all marked.
 pub fn accepted_by_first<const COUNT: usize>(marked: &[bool]) -> bool {
     accepted(&marked[..marked.len().min(COUNT)])
 }
 
-/// The first of the first rows that is outside the sizes allowed.
+/// The first row outside the sizes allowed; of rows behind the first ones only those whose numbers are out of order.
 fn bad_in_first<const COUNT: usize>(program: &Program, rows: &[Row]) -> Option<usize> {
-    checks::bad_row(program, &rows[..rows.len().min(COUNT)])
+    let in_order =
+        |row: &Row| 1 <= row.cost && row.cost <= row.deadline && row.deadline <= row.period;
+    let is_bad = |&place: &usize| {
+        let row = rows[place];
+        (program.row_wrong)(row) && (place < COUNT || !in_order(&row))
+    };
+    (0..rows.len()).find(is_bad)
 }
 
 /// The call with its bounds behind the first rows brought within their rows' cost to deadline.

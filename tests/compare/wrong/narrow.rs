@@ -29,7 +29,7 @@ pub fn on_one_processor() -> Vec<Slip> {
         &kept_in!("the periods of a demand", demand, demand_quotient, [12]),
         &kept_in!("a row's demand", demand, demand_product, [12, 16, 18]),
         &kept_in!("the demand", misses, demand_sum, [12, 16, 18, 20]),
-        &kept_in!("the jobs begun", jobs_begun, begun_quotient, [12, 16]),
+        &kept_in!("the jobs begun", jobs_begun, begun_quotient, [12]),
         &kept_in!(
             "the cost begun",
             fills,

@@ -4,22 +4,39 @@ use super::narrow::cut;
 use super::Slip;
 use second::call::Call;
 
-/// The slips: what a wrong program does, and the part that is exchanged.
+/// The slips in numbers that one entry or some take: what a wrong program does, and the part that is exchanged.
 pub fn slips() -> Vec<Slip> {
-    let lists: [&[Slip]; 11] = [
-        &kept_in!("the words", taken, words, [20, 24, 28, 31]),
+    let lists: [&[Slip]; 6] = [
         &kept_in!("the bounds", taken, bounds, [20, 24, 28, 31]),
         &kept_in!("the row number", taken, row_number, [16, 20, 24, 28, 31]),
         &kept_in!("the horizon", taken, horizon, [24, 25, 28, 31]),
         &kept_in!("the processors", taken, processors, [16, 20, 24, 28, 31]),
         &kept_in!("the method", taken, method, [16, 20, 24, 28, 31]),
-        &kept_in!("the row count", taken, row_count, [8, 16, 24]),
-        &kept_in!("the words' length", taken, words_length, [16, 24, 32]),
         &kept_in!("the bounds' length", taken, bounds_length, [8, 16, 24, 32]),
-        &kept_in!("the text's length", taken, text_length, [16, 24, 32]),
-        &kept_in!("the room", taken, room, [16, 24, 32]),
     ];
     lists.concat()
+}
+
+/// The slips that every entry with words must show by itself.
+pub fn in_words() -> Vec<Slip> {
+    let lists: [&[Slip]; 3] = [
+        &kept_in!("the words", taken, words, [20, 31]),
+        &kept_in!("the row count", taken, row_count, [8, 16]),
+        &kept_in!("the words' length", taken, words_length, [16, 32]),
+    ];
+    lists.concat()
+}
+
+/// The slips that every entry with a text must show by itself.
+pub fn in_text() -> Vec<Slip> {
+    let list: &[Slip] = &kept_in!("the text's length", taken, text_length, [16, 24, 32]);
+    list.to_vec()
+}
+
+/// The slips that every entry with an output must show by itself.
+pub fn in_room() -> Vec<Slip> {
+    let list: &[Slip] = &kept_in!("the room", taken, room, [16, 24, 32]);
+    list.to_vec()
 }
 
 /// A word's lowest bits.
