@@ -1,5 +1,5 @@
-//! Cases far out, where the second program takes about a second each or, for two of them, minutes: numbers, sums and lengths at the
-//! ends of what the sizes allow.
+//! Cases far out, where the second program takes up to a second each or, for 63 middling rows, half a minute: numbers, sums and
+//! lengths at the ends of what the sizes allow.
 //!
 //! Their answers were worked out once by two ways that share nothing: by the second program, which tries every value and looks at
 //! every length, and by a plain script that climbs from the cost to the least solution, pass by pass in both engines' orders, that
@@ -39,7 +39,7 @@ fn asked_of_both(case: Case, slips: &[Slip]) -> Far {
     }
 }
 
-/// A case that the second program takes minutes for: only the proved program is asked.
+/// A case that the second program takes long for: only the proved program is asked.
 fn asked_of_one(case: Case, slips: &[Slip]) -> Far {
     Far {
         case,
@@ -185,6 +185,18 @@ fn sums() -> Vec<Far> {
                     program.rta = rta_sum::<25>
                 }),
             ],
+        ),
+        asked_of_both(
+            meeting_twins("a part just past 2^18", 4_300, 10_000, 1, 0),
+            &[("keeps RTA's part in 18 bits", |program| {
+                program.rta = rta_part::<18>
+            })],
+        ),
+        asked_of_both(
+            meeting_twins("a part just past 2^20", 17_000, 25_000, 1, 0),
+            &[("keeps RTA's part in 20 bits", |program| {
+                program.rta = rta_part::<20>
+            })],
         ),
         asked_of_both(
             meeting_twins("a part just past 2^22", 68_000, 100_000, 1, 0),

@@ -12,7 +12,7 @@ pub fn in_one_row() -> Vec<Slip> {
         &kept_in!("BCL's sum", bcl, bcl_sum, [12, 16, 18, 20, 22, 24, 25]),
         &kept_in!("RTA's sum", rta, rta_sum, [12, 16, 18, 20, 22]),
         &kept_in!("BCL's part", bcl, bcl_part, [12, 16, 18, 20, 22, 24, 25]),
-        &kept_in!("RTA's part", rta, rta_part, [12, 16, 18, 20]),
+        &kept_in!("RTA's part", rta, rta_part, [12, 16]),
         &kept_in!("the periods of I", share, share_quotient, [12, 16, 18]),
         &kept_in!("the whole jobs of I", share, share_product, [12, 16, 18]),
         &kept_in!("the periods of W", work, work_quotient, [12, 16]),
