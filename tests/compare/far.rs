@@ -256,7 +256,7 @@ fn uneven_by(engine: Entry) -> Far {
     )
 }
 
-/// A pair that takes 5,003 passes at once, and 10,003 in rounds, by an engine.
+/// A pair that takes 5,003 passes at once, by an engine.
 fn pair_by(engine: Entry) -> Far {
     let pair = words_of(&climbing_pair(5_001));
     asked_of_both(
