@@ -65,7 +65,7 @@ fn twins_and_one(count: usize, twin: [u32; 3], other: [u32; 3]) -> Vec<u32> {
 }
 
 /// The slips that a late miss of rows with tiny periods must show.
-const LATE: [Slip; 5] = [
+const LATE: [Slip; 6] = [
     ("gives up a search after a million deadlines", |program| {
         program.verdict = deadline_search::<1_000_000>
     }),
@@ -74,6 +74,9 @@ const LATE: [Slip; 5] = [
     }),
     ("keeps the periods of a demand in 22 bits", |program| {
         program.demand = demand_quotient::<22>
+    }),
+    ("keeps a row's demand in 20 bits", |program| {
+        program.demand = demand_product::<20>
     }),
     ("keeps a row's demand in 22 bits", |program| {
         program.demand = demand_product::<22>
