@@ -4,6 +4,7 @@ use mathlib.Core.List.{List}
 use Prim.Native.Nat.{ℕ, _≤_}
 use native.Mathlib.Decide.{ℕ-discrete}
 use native.Mathlib.Omega.{arith}
+use Rattle.laws.proofs.Choice.{one-answer}
 use Rattle.model.specs.Answer.{methodOf}
 use Rattle.model.proofs.Methods.{answer-regular}
 use Rattle.rows.specs.declared.Found.{Found}
@@ -15,12 +16,11 @@ use Rattle.refinement.specs.declared.OneRow.{OneRow}
 use Rattle.refinement.specs.Question.{oneRowRefusal, oneRow}
 use Rattle.refinement.proofs.Question.{asked, one-row-answered, one-row-refused, one-row-keeps}
 use Rattle.verdict.specs.declared.Answer.{Answer}
+use Rattle.verdict.specs.OneProcessor.{oneProcessor}
 use Rattle.verdict.proofs.Promised.{numbers-fix, refused-zeros, keeps}
 use Rattle.board.specs.declared.RowNumbers.{RowNumbers}
 use Rattle.board.specs.declared.OutcomeNumbers.{OutcomeNumbers}
 use Rattle.board.specs.Face.{rowInNumbers, outcomeInNumbers}
-use Rattle.verdict.specs.OneProcessor.{oneProcessor}
-use Rattle.laws.proofs.Choice.{one-answer}
 
 -- A bound that is answered is not 0.
 abbrev pub Positive : Found → Type 0

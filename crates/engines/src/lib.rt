@@ -8,7 +8,7 @@ use turns::sweep_rows;
 ghost use mathlib.Core.Path.{_≡_};
 ghost use Prim.Native.Nat.{_+_, _≤_, _<_};
 ghost use lib.ListN.{length};
-ghost use Rattle.model.specs.Refine.{deadlines, round, sweep, rounds, atOnce, marks};
+ghost use Rattle.model.specs.Refine.{deadlines, round, rounds, atOnce, marks};
 ghost use Rattle.model.specs.Inner.{Held};
 ghost use Rattle.rows.specs.Words.{rowCount, sheetOf};
 ghost use Rattle.rows.specs.Checks.{SoundRows};

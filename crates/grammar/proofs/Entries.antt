@@ -4,13 +4,14 @@ use mathlib.Core.Path.{_≡_, refl, sym, _∙_, ap}
 use mathlib.Core.Bool.{Bool, true, false, not}
 use mathlib.Core.List.{List, _++_}
 use mathlib.Core.Option.{Option, none, some}
+use mathlib.Core.Logic.{_↔_}
 use Prim.Native.Nat.{ℕ, _*_}
 use native.Mathlib.Omega.{arith}
-use borrow.Author.Tests.{eqb-true}
 use lib.Dec.{eqb, ltb}
 use lib.ListN.{length, drop}
-use Rattle.laws.specs.Choice.{pick, unlessRefused}
+use Rattle.laws.specs.Choice.{pick}
 use Rattle.laws.proofs.Fill.{front-put}
+use Rattle.laws.proofs.Choice.{number-kept, zero-where-refused}
 use Rattle.model.specs.Sheet.{processorsAllowed}
 use Rattle.rows.specs.declared.Refusal.{Refusal}
 use Rattle.rows.specs.Words.{rowCount, sheetOf, firstOutside}
@@ -23,8 +24,6 @@ use Rattle.grammar.specs.Meaning.{Breaks, Readable, Writable}
 use Rattle.grammar.specs.Sheets.{betweenRefusal, formedRefusal, formRefusal, readRefusal, readRefused, readAnswer, readSheet, wordsAfter, writeRefusal, writeAnswer, writeSheet, bytesAfter}
 use Rattle.grammar.proofs.Meaning.{form-means, form-fixed}
 use Rattle.grammar.proofs.Refusals.{passed, passes, read-refused, read-accepted, write-accepted, form-wrong, form-right}
-use mathlib.Core.Logic.{_↔_}
-use Rattle.laws.proofs.Choice.{number-kept, zero-where-refused}
 
 -- A row outside the sizes allowed is no refusal 1.
 rows-not-one : (row : Option ℕ) → (rowsRefusal row) .number ≡ 1 → ⊥

@@ -1,19 +1,17 @@
 -- The checks of reading and writing: what a refusal, and none, says of the answer and of the lent space.
 use mathlib.Core.Path.{_≡_, sym, _∙_}
-use mathlib.Core.Bool.{true}
 use mathlib.Core.List.{List}
 use mathlib.Core.Option.{none, some}
-use Prim.Native.Nat.{ℕ, _*_, _≤_, _<_}
+use Prim.Native.Nat.{ℕ, _*_, _<_}
 use native.Mathlib.Omega.{arith}
 use borrow.Author.Tests.{lt-ltb}
 use lib.ListN.{length}
 use Rattle.laws.proofs.Choice.{pick-yes, pick-no, not-refused, is-refused}
 use Rattle.laws.proofs.Fill.{listed-length, front-left}
 use Rattle.laws.specs.Fill.{atFront}
-use Rattle.model.specs.Sheet.{processorsAllowed}
 use Rattle.rows.specs.declared.Refusal.{Refusal}
 use Rattle.rows.specs.Words.{rowCount}
-use Rattle.rows.specs.Checks.{refused, notRefused, tooMany, processorsRefusal, roomRefusal, firstOf, wordsRefusal, SoundRows}
+use Rattle.rows.specs.Checks.{refused, notRefused, tooMany, processorsRefusal, roomRefusal, firstOf, wordsRefusal}
 use Rattle.rows.proofs.Checks.{whole-rows, accepted, sound-passes, first-of-zero, first-of-none, processors-allowed, allowed-processors, room-enough, enough-room}
 use Rattle.grammar.specs.declared.Read.{Read}
 use Rattle.grammar.specs.Grammar.{processorsWritten, rowsWritten, firstWrong}

@@ -12,6 +12,7 @@ use lib.Seq.{getD-append-add}
 use Rattle.laws.specs.Fill.{listed, joined}
 use Rattle.laws.proofs.Order.{below-or-from}
 use Rattle.laws.proofs.Fill.{listed-same, listed-back, joined-at}
+use Rattle.laws.proofs.Cuts.{getD-between, along, along-each}
 use Rattle.model.specs.Sheet.{Sheet, processorsAllowed}
 use Rattle.model.proofs.Sheet.{allowed-processors}
 use Rattle.digits.specs.Digits.{digitByte, number, digits}
@@ -25,7 +26,6 @@ use Rattle.grammar.specs.Grammar.{head, line, sheetLength, lineAllows, s
 use Rattle.grammar.specs.Lines.{firstLine, rowLine, lineOf, sheetBytes, wordOffset, wordWritten, wordsWritten}
 use Rattle.grammar.specs.Meaning.{Formed}
 use Rattle.grammar.proofs.Grammar.{sheet-head, sheet-row}
-use Rattle.laws.proofs.Cuts.{getD-between, along, along-each}
 use Rattle.grammar.proofs.Lines.{first-line-length, row-line-length, sheet-bytes-length}
 
 -- The digits of the two lines' kinds, as bytes.

@@ -6,8 +6,8 @@ use Prim.Native.Nat.{ℕ, _≤_}
 use native.Mathlib.Nat.{le-refl, le-trans}
 use native.Mathlib.Omega.{arith}
 use borrow.Author.Tests.{eq-eqb, ne-eqb, eqb-true}
-use Rattle.laws.specs.Choice.{pick, unlessRefused, orElse, isSome, Better}
 use lib.Dec.{eqb}
+use Rattle.laws.specs.Choice.{pick, unlessRefused, orElse, isSome, Better}
 
 -- A test does not both pass and fail.
 pub never-both : {test : Bool} → test ≡ true → test ≡ false → ⊥

@@ -1,7 +1,6 @@
 -- A ray is DOWN many times: within a step the rows go down one after the other, each allowed by its turn at the bounds it meets, and
 -- the next step begins where the last row left off.
 use mathlib.Core.Path.{_≡_, refl, sym, _∙_, ap}
-use mathlib.Core.Bool.{Bool, true, false}
 use mathlib.Core.List.{List}
 use mathlib.Core.Logic.{⊎-elim}
 use Prim.Native.Nat.{ℕ, zero, suc, _+_, _*_, _-_, _≤_, _<_, zero-le}

@@ -19,7 +19,7 @@ use Rattle.laws.proofs.Choice.{never-both, better-orElse}
 use Rattle.laws.proofs.Sum.{total-mono, total-same, total-add}
 use Rattle.laws.proofs.Fill.{listed-length, listed-at, same-true, same-self, below-lowers}
 use Rattle.model.specs.Sheet.{Sheet}
-use Rattle.model.specs.Refine.{Ask, deadlines, turn, round, sweep, until, Consistent, Supported}
+use Rattle.model.specs.Refine.{Ask, deadlines, turn, round, sweep, until, Consistent}
 use Rattle.model.specs.Inner.{Held}
 
 -- What refinement asks of a one-row answer: it lies from the cost to the deadline, and smaller bounds give a better one.

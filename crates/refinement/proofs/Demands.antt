@@ -2,34 +2,34 @@
 use mathlib.Core.Path.{_≡_, refl, sym, _∙_, ap, ap₂}
 use mathlib.Core.Bool.{Bool, true, false}
 use mathlib.Core.List.{List, _++_}
+use mathlib.Core.Option.{Option, none, some}
 use Prim.Native.Nat.{ℕ, _<_, _≤_}
 use native.Mathlib.Omega.{arith}
 use lib.ListN.{length, getD, take, drop, List·getD-append, take-append-drop}
 use lib.Seq.{take-at, drop-at}
+use lib.Dec.{eqb}
 use Rattle.laws.specs.Bits.{bit, bitAt}
+use Rattle.laws.specs.Choice.{pick, orElse, isSome}
+use Rattle.laws.proofs.Bits.{bits-tell}
 use Rattle.model.specs.Answer.{methodOf}
 use Rattle.model.specs.Refine.{rounds, atOnce, marked, marks, Largest, turn}
 use Rattle.model.proofs.Engines.{marks-say, unmarked-deadline, largest-unique}
 use Rattle.model.proofs.Methods.{engines-agree, rta-dominates}
-use Rattle.rows.specs.Words.{rowCount, sheetOf, foundOf}
-use Rattle.rows.proofs.Words.{sheet-rows}
-use Rattle.refinement.specs.declared.Refined.{Refined}
-use Rattle.refinement.specs.Refinement.{askOf, refineRefusal, finalBounds, refined, refinedWords, EntriesAgree, Settled, NoWorse, Engine, AskedAgain, EndsAlike}
-use Rattle.refinement.proofs.Refinement.{rounds-length, refine-answered, refining, refined-number}
-use mathlib.Core.Option.{Option, none, some}
-use lib.Dec.{eqb}
-use Rattle.laws.specs.Choice.{pick, orElse, isSome}
-use Rattle.laws.proofs.Bits.{bits-tell}
 use Rattle.model.proofs.Refine.{turn-from-cost, turn-by-deadline}
 use Rattle.rows.specs.declared.Refusal.{Refusal}
 use Rattle.rows.specs.declared.Found.{Found}
 use Rattle.rows.specs.declared.Found.the-variants.{At, Nowhere}
+use Rattle.rows.specs.Words.{rowCount, sheetOf, foundOf}
+use Rattle.rows.specs.Checks.{SoundRows}
+use Rattle.rows.proofs.Words.{sheet-rows}
 use Rattle.rows.proofs.Checks.{sound-row}
+use Rattle.refinement.specs.declared.Refined.{Refined}
 use Rattle.refinement.specs.declared.OneRow.{OneRow}
-use Rattle.refinement.specs.Question.{oneRow, Ready, Askable}
+use Rattle.refinement.specs.Refinement.{askOf, refineRefusal, finalBounds, refined, refinedWords, EntriesAgree, Settled, NoWorse, Engine, AskedAgain, EndsAlike}
+use Rattle.refinement.specs.Question.{Ready, Askable}
+use Rattle.refinement.proofs.Refinement.{rounds-length, refine-answered, refining, refined-number}
 use Rattle.refinement.proofs.Question.{askable, one-row-answered}
 use Rattle.refinement.proofs.Steps.{ask-regular}
-use Rattle.rows.specs.Checks.{SoundRows}
 
 -- Both engines give the same final bounds for any words.
 same-final : (words : List ℕ) (m method : ℕ) → finalBounds rounds words m method ≡ finalBounds atOnce words m method

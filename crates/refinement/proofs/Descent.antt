@@ -3,15 +3,14 @@
 use mathlib.Core.Path.{_≡_, sym, _∙_, ap}
 use mathlib.Core.List.{List}
 use mathlib.Core.Logic.{_⊎_, inl, inr, ⊎-elim}
-use mathlib.Core.Option.{some}
 use Prim.Native.Nat.{ℕ, _+_, _*_, _-_, _≤_, _<_, zero-le}
 use native.Mathlib.Nat.{le-trans, le-refl, mul-le-mul, zero-mul, add-le-add}
 use native.Mathlib.Decide.{ℕ-discrete}
 use native.Mathlib.Omega.{arith}
 use lib.ListN.{length, getD, set, length-set}
 use lib.Seq.{getD-set-same, getD-set-other}
-use Rattle.laws.proofs.Order.{below-or-from}
 use Rattle.laws.specs.Fill.{Below}
+use Rattle.laws.proofs.Order.{below-or-from}
 use Rattle.model.specs.Sheet.{Sheet}
 use Rattle.model.specs.Refine.{Ask}
 use Rattle.model.specs.Inner.{along, Held}
@@ -19,9 +18,9 @@ use Rattle.model.proofs.Refine.{Regular}
 use Rattle.model.proofs.Ray.{next-step, within, within-gone, within-left, stage-at, along-none, along-lower, OnRay, ray-bound, ray-on, ray-skip, ray-ahead}
 use Rattle.rows.specs.Words.{rowCount, sheetOf}
 use Rattle.rows.proofs.Words.{sheet-rows}
+use Rattle.rows.proofs.Checks.{sound-row}
 use Rattle.refinement.specs.Inner.Ray.{OnWay, Reaches, Small, Roomy, Lowered, Descended}
 use Rattle.refinement.specs.Question.{Ready}
-use Rattle.rows.proofs.Checks.{sound-row}
 use Rattle.refinement.proofs.Limits.{bound-in-range}
 use Rattle.refinement.proofs.Steps.{ready-lower}
 

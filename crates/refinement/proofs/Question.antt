@@ -4,10 +4,11 @@ use mathlib.Core.Path.{_≡_, refl, sym, _∙_, ap}
 use mathlib.Core.Bool.{Bool, true, false}
 use mathlib.Core.List.{List}
 use mathlib.Core.Option.{Option, none, some}
-use Prim.Native.Nat.{ℕ, _≤_, _<_}
+use mathlib.Core.Logic.{_↔_}
+use Prim.Native.Nat.{ℕ, _<_}
 use native.Mathlib.Decide.{ℕ-discrete}
 use native.Mathlib.Omega.{arith}
-use borrow.Author.Tests.{ltb-true, ltb-false, leb-true, eqb-true, lt-ltb, eq-eqb, le-leb}
+use borrow.Author.Tests.{ltb-true, leb-true, eqb-true, lt-ltb, eq-eqb, le-leb}
 use lib.Dec.{leb, ltb, eqb}
 use lib.ListN.{length, getD}
 use Rattle.laws.specs.Choice.{pick}
@@ -26,7 +27,6 @@ use Rattle.rows.proofs.Words.{sheet-rows}
 use Rattle.rows.proofs.Checks as checks
 use Rattle.refinement.specs.declared.OneRow.{OneRow}
 use Rattle.refinement.specs.Question.{boundAllowed, questionAllowed, questionRefusal, oneRowRefusal, oneRow, answerOf, OneRowPromise, Ready, Askable}
-use mathlib.Core.Logic.{_↔_}
 
 -- A question that is allowed, on sound words: the bounds are ready and the row is there.
 pub question-ready : (words R : List ℕ) (row : ℕ) → SoundRows words → questionAllowed (sheetOf words) R row ≡ true

@@ -2,7 +2,8 @@
 -- off the answers, from what is proved of the definitions.
 use mathlib.Core.Path.{_≡_, sym, _∙_, ap, refl}
 use mathlib.Core.List.{List, _++_}
-use Prim.Native.Nat.{ℕ, _≤_}
+use mathlib.Core.Logic.{_↔_}
+use Prim.Native.Nat.{ℕ}
 use lib.ListN.{length, drop}
 use Rattle.laws.proofs.Choice.{not-refused, is-refused, one-answer, number-kept, zero-where-refused}
 use Rattle.laws.proofs.Fill.{listed-length, listed-at, front-left, front-put}
@@ -18,7 +19,6 @@ use Rattle.refinement.specs.declared.Refined.{Refined}
 use Rattle.refinement.specs.Refinement.{askOf, refineRefusal, Engine, finalBounds, refined, refinedWords, Refinable}
 use Rattle.refinement.specs.Question.{Ready}
 use Rattle.refinement.proofs.Steps.{ask-regular}
-use mathlib.Core.Logic.{_↔_}
 
 -- The deadlines are ready bounds.
 pub deadlines-ready : (words : List ℕ) → SoundRows words → Ready words (deadlines (sheetOf words))

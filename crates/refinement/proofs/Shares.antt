@@ -11,7 +11,7 @@ use Rattle.laws.proofs.Sum.{total-same, total-within, unless-here, unless-other
 use Rattle.laws.proofs.Fill.{listed-length, listed-at}
 use Rattle.model.specs.Sheet.{Sheet}
 use Rattle.model.specs.Interference.{shareOf, workOf, others, bclTerm, bclValue, rtaTerm, rtaRight}
-use Rattle.rows.specs.Words.{rowCount, sheetOf}
+use Rattle.rows.specs.Words.{sheetOf}
 use Rattle.rows.proofs.Words.{sheet-rows}
 use Rattle.rows.proofs.Checks.{sound-row}
 use Rattle.refinement.specs.Inner.{shares, listedShare, termOf, Prepared}

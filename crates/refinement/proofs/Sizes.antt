@@ -1,6 +1,6 @@
 -- What is known of a row's words and of its bound: the sheet's sizes, read at the row's place.
-use Prim.Native.Nat.{ℕ, _+_, _*_, _≤_, _<_}
 use mathlib.Core.List.{List}
+use Prim.Native.Nat.{ℕ, _+_, _*_, _<_}
 use native.Mathlib.Omega.{arith}
 use lib.ListN.{getD}
 use Rattle.rows.specs.Words.{rowCount}

@@ -14,7 +14,6 @@ use Rattle.model.specs.Refine.{Ask, marks}
 use Rattle.rows.specs.declared.Found.{Found}
 use Rattle.rows.specs.declared.Found.the-variants.{At, Nowhere}
 use Rattle.rows.specs.Words.{rowCount, sheetOf}
-use Rattle.rows.specs.Checks.{SoundRows}
 use Rattle.refinement.specs.Question.{Ready}
 pub mod Kept
 pub mod Ray

@@ -3,6 +3,7 @@ use mathlib.Core.Path.{_≡_}
 use mathlib.Core.List.{List}
 use Prim.Native.Nat.{ℕ, _≤_, _<_, _^_}
 use lib.ListN.{length, getD, take, drop}
+use lib.Dec.{eqb}
 use Rattle.laws.specs.Choice.{unlessRefused, pick}
 use Rattle.laws.specs.Fill.{Below, atFront}
 use Rattle.laws.specs.Bits.{bit, bitAt}
@@ -10,12 +11,10 @@ use Rattle.model.specs.Sheet.{Sheet}
 use Rattle.model.specs.Answer.{methodOf, answer}
 use Rattle.model.specs.Refine.{Ask, rounds, atOnce, marked, marks, Largest}
 use Rattle.rows.specs.declared.Refusal.{Refusal}
+use Rattle.rows.specs.declared.Found.the-variants.{At, Nowhere}
 use Rattle.rows.specs.Words.{rowCount, sheetOf}
 use Rattle.rows.specs.Checks.{processorsRefusal, methodRefusal, roomRefusal, firstOf, wordsRefusal, SoundRows}
 use Rattle.refinement.specs.declared.Refined.{Refined}
-use lib.Dec.{eqb}
-use Rattle.rows.specs.declared.Found.the-variants.{At, Nowhere}
-use Rattle.refinement.specs.declared.OneRow.{OneRow}
 use Rattle.refinement.specs.Question.{oneRow}
 
 -- The one-row answer that words, processors and method number ask for.

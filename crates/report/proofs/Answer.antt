@@ -1,13 +1,14 @@
 -- The whole answer: a refused sheet gets its line, and a sheet that was read is refused later only for want of room.
 use mathlib.Core.Path.{_≡_, refl, sym, _∙_, ap, ap₂}
 use mathlib.Core.List.{List, _++_}
+use mathlib.Core.Logic.{_↔_}
 use Prim.Native.Nat.{ℕ, _*_, _≤_}
 use native.Mathlib.Decide.{ℕ-discrete}
 use native.Mathlib.Omega.{arith}
 use lib.ListN.{length, take, drop}
 use lib.Seq.{take-at}
-use Rattle.laws.proofs.Choice.{not-refused, is-refused, one-answer}
 use Rattle.laws.specs.Fill.{atFront}
+use Rattle.laws.proofs.Choice.{not-refused, is-refused, one-answer}
 use Rattle.laws.proofs.Fill.{front-put}
 use Rattle.rows.specs.declared.Refusal.{Refusal}
 use Rattle.rows.specs.Words.{rowCount}
@@ -18,14 +19,13 @@ use Rattle.grammar.specs.declared.Written.{Written}
 use Rattle.grammar.specs.Grammar.{processorsWritten, rowsWritten}
 use Rattle.grammar.specs.Lines.{wordsWritten}
 use Rattle.grammar.specs.Sheets.{readRefusal, readSheet, wordsAfter, writeAnswer}
-use Rattle.grammar.proofs.Refusals.{read-refused, words-length, write-accepted}
 use Rattle.grammar.specs.Meaning.{Readable}
+use Rattle.grammar.proofs.Refusals.{read-refused, words-length, write-accepted}
 use Rattle.grammar.proofs.Entries.{read-number, read-found, read-answers, read-leaves, written-number}
 use Rattle.report.specs.Lines.{resultHead, resultLine, resultLength, refusalLine}
 use Rattle.report.specs.Result.{resultOf, writeResult, resultAfter, mostWords, answerText, answerRefusal, answerSheet, answerAfter}
 use Rattle.report.proofs.Text.{refusal-length}
 use Rattle.report.proofs.Entries.{room-decides, result-of-length}
-use mathlib.Core.Logic.{_↔_}
 
 -- Method 1 is not refused.
 method-one : methodRefusal 1 ≡ 0

@@ -1,10 +1,13 @@
 -- The entries' checks and answers: what number 0 says, and that a sheet read without refusal is refused later only for want of room.
 use mathlib.Core.Path.{_≡_, refl, sym, _∙_, ap, ap₂}
 use mathlib.Core.List.{List, _++_}
+use mathlib.Core.Logic.{_↔_}
 use Prim.Native.Nat.{ℕ, _≤_}
 use native.Mathlib.Omega.{arith}
 use lib.ListN.{length, drop, length-append}
+use Rattle.laws.proofs.Fill.{front-put}
 use Rattle.model.specs.Refine.{atOnce, marks}
+use Rattle.model.proofs.Sheet.{allowed-processors, processors-allowed}
 use Rattle.rows.specs.declared.Refusal.{Refusal}
 use Rattle.rows.specs.Words.{rowCount, sheetOf}
 use Rattle.rows.specs.Checks.{refused, processorsRefusal, methodRefusal, roomRefusal, firstOf, wordsRefusal, SoundRows}
@@ -13,14 +16,11 @@ use Rattle.rows.proofs.Checks as checks
 use Rattle.refinement.specs.declared.Refined.{Refined}
 use Rattle.refinement.specs.Refinement.{askOf, refineRefusal, finalBounds, refined, refinedWords}
 use Rattle.refinement.proofs.Refinement.{at-once-length, refine-answered, refinable}
+use Rattle.grammar.proofs.Entries.{written-number}
 use Rattle.report.specs.Lines.{resultLength}
 use Rattle.report.specs.Result.{resultOf, resultRefusal, Reportable, writeResult, resultAfter}
 use Rattle.report.specs.Inner.{linesFrom}
 use Rattle.report.proofs.Text.{text-is, result-length}
-use mathlib.Core.Logic.{_↔_}
-use Rattle.model.proofs.Sheet.{allowed-processors, processors-allowed}
-use Rattle.grammar.proofs.Entries.{written-number}
-use Rattle.laws.proofs.Fill.{front-put}
 
 -- The refusal, from what each call gave.
 pub chain : (words : List ℕ) (m method room : ℕ) {five need seven rest four whole : ℕ} {r : Refusal} → five ≡ methodRefusal method

@@ -1,5 +1,5 @@
 -- A result sheet read back: two digits hold every count and mark, and six hold every bound.
-use mathlib.Core.Path.{_≡_, refl, sym, _∙_, ap}
+use mathlib.Core.Path.{_≡_, _∙_, ap}
 use mathlib.Core.Bool.{Bool, true, false}
 use mathlib.Core.List.{List, [], _∷_, _++_, append-assoc}
 use Prim.Native.Nat.{ℕ, _+_, _*_, _^_, _≤_, _<_}
@@ -10,11 +10,11 @@ use Rattle.laws.specs.Fill.{joined}
 use Rattle.laws.specs.Bits.{bit}
 use Rattle.laws.proofs.Fill.{joined-at}
 use Rattle.laws.proofs.Cuts.{getD-between}
-use Rattle.digits.specs.Digits.{number, digits}
-use Rattle.digits.proofs.Number.{digits-length, number-of-digits}
 use Rattle.model.specs.Sheet.{Sheet}
 use Rattle.model.specs.Refine.{Ask, marked, accepted, atOnce}
-use Rattle.rows.specs.Words.{rowCount, sheetOf}
+use Rattle.digits.specs.Digits.{number, digits}
+use Rattle.digits.proofs.Number.{digits-length, number-of-digits}
+use Rattle.rows.specs.Words.{sheetOf}
 use Rattle.rows.proofs.Words.{sheet-rows}
 use Rattle.refinement.specs.Refinement.{askOf, finalBounds}
 use Rattle.refinement.proofs.Demands.{final-small}

@@ -11,10 +11,10 @@ use Rattle.laws.specs.Bits.{bit, bitAt}
 use Rattle.laws.proofs.Fill.{joined-length}
 use Rattle.laws.proofs.Cuts.{joined-same}
 use Rattle.laws.proofs.Bits.{every-same}
-use Rattle.digits.proofs.Number.{digits-length}
 use Rattle.model.specs.Sheet.{Sheet}
 use Rattle.model.specs.Refine.{Ask, marked, marks, accepted}
 use Rattle.model.proofs.Engines.{marks-say}
+use Rattle.digits.proofs.Number.{digits-length}
 use Rattle.report.specs.Lines.{resultHead, resultLine, resultLength, lineText, resultFirstLine, resultRowLine, resultLineOf, resultBytes, refusalLine}
 use Rattle.report.specs.Inner.{lineFrom, isSet, linesFrom}
 

@@ -5,7 +5,10 @@ use Prim.Native.Nat.{ℕ, _≤_, _+_, _*_, _<_}
 use lib.ListN.{length, getD}
 use Rattle.laws.specs.Choice.{unlessRefused}
 use Rattle.laws.specs.Fill.{atFront}
+use Rattle.laws.specs.Bits.{bit}
 use Rattle.model.specs.Refine.{atOnce, Ask, marked, accepted}
+use Rattle.model.specs.Sheet.{Sheet}
+use Rattle.digits.specs.Digits.{number}
 use Rattle.rows.specs.declared.Refusal.{Refusal}
 use Rattle.rows.specs.Words.{rowCount, sheetOf}
 use Rattle.rows.specs.Checks.{refused, processorsRefusal, methodRefusal, roomRefusal, firstOf, wordsRefusal, SoundRows}
@@ -15,9 +18,6 @@ use Rattle.grammar.specs.Grammar.{processorsWritten}
 use Rattle.grammar.specs.Lines.{wordsWritten}
 use Rattle.grammar.specs.Sheets.{readRefusal, writeAnswer}
 use Rattle.report.specs.Lines.{resultLength, resultBytes, refusalLine, resultHead, resultLine}
-use Rattle.laws.specs.Bits.{bit}
-use Rattle.model.specs.Sheet.{Sheet}
-use Rattle.digits.specs.Digits.{number}
 
 -- The result sheet of rows: marks and bounds are worked out by the refinement, at once.
 unfoldable pub resultOf : List ℕ → ℕ → ℕ → List ℕ

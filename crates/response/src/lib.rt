@@ -11,7 +11,7 @@ ghost use lib.ListN.{length, getD};
 ghost use Rattle.laws.specs.Sum.{total};
 ghost use Rattle.model.specs.Interference.{rtaRight};
 ghost use Rattle.model.specs.Answer.{bclAnswer, rtaAnswer, methodOf, answer};
-ghost use Rattle.rows.specs.Words.{rowCount, sheetOf, foundOf, boundOr, foundFrom};
+ghost use Rattle.rows.specs.Words.{rowCount, sheetOf, foundOf};
 ghost use Rattle.refinement.specs.Question.{Ready};
 ghost use Rattle.refinement.specs.Inner.{Prepared, listedShare, termOf};
 

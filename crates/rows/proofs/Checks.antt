@@ -5,6 +5,7 @@ use mathlib.Core.List.{List}
 use mathlib.Core.Option.{Option, none, some}
 use Prim.Native.Nat.{ℕ, _*_, _/_, _%_, _≤_, _<_}
 use native.Mathlib.Omega.{arith}
+use native.Mathlib.Decide.{ℕ-discrete}
 use borrow.Author.Tests.{eq-eqb, ne-eqb, eqb-true, eqb-false, le-ltb, ltb-false, not-true, not-false}
 use lib.Dec.{eqb, ltb}
 use lib.ListN.{length}
@@ -12,13 +13,12 @@ use Rattle.laws.specs.Choice.{pick, unlessRefused}
 use Rattle.laws.specs.Search.{Nothing}
 use Rattle.laws.proofs.Choice.{never-both, pick-yes, pick-no}
 use Rattle.laws.proofs.Search.{least-means, least-fixed}
-use native.Mathlib.Decide.{ℕ-discrete}
 use Rattle.model.specs.Sheet.{Sheet, rowAllowedAt, processorsAllowed}
+use Rattle.model.proofs.Sheet.{SizedRow, count-allowed, row-sized}
 use Rattle.rows.specs.declared.Refusal.{Refusal}
 use Rattle.rows.specs.Words.{rowCount, sheetOf, outside, firstOutside}
 use Rattle.rows.specs.Checks.{refused, notRefused, notRows, tooMany, processorsRefusal, methodRefusal, roomRefusal, firstOf, rowsRefusal, wordsRefusal, SoundRows, Accepted}
 use Rattle.rows.specs.Inner.{shapeRefusal}
-use Rattle.model.proofs.Sheet.{SizedRow, count-allowed, row-sized}
 use Rattle.rows.proofs.Words.{sheet-rows}
 
 -- A list that is not empty and whole rows is three words a row, and at least one row.

@@ -10,13 +10,13 @@ use rows::found_of;
 ghost use mathlib.Core.Path.{_≡_};
 ghost use Prim.Native.Nat.{_+_, _≤_, _<_, _*_, _^_};
 ghost use lib.ListN.{length};
+ghost use Rattle.laws.specs.Bits.{bit};
 ghost use Rattle.model.specs.Answer.{methodOf, answer};
+ghost use Rattle.model.specs.Refine.{round, sweep, marks};
+ghost use Rattle.model.specs.Inner.{Held};
 ghost use Rattle.rows.specs.Words.{rowCount, sheetOf, foundOf, boundOr};
 ghost use Rattle.refinement.specs.Question.{Ready};
 ghost use Rattle.refinement.specs.Inner.{isFound, AfterPass};
-ghost use Rattle.laws.specs.Bits.{bit};
-ghost use Rattle.model.specs.Refine.{round, sweep, marks};
-ghost use Rattle.model.specs.Inner.{Held};
 ghost use Rattle.refinement.specs.Refinement.{askOf};
 
 // One row's bound by either method, RTA's by jumps, and 0 where there is none, with space for the other rows and for what each of them takes.

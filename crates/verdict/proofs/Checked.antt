@@ -6,7 +6,7 @@ use native.Mathlib.Omega.{arith}
 use Rattle.laws.proofs.Choice.{pick-yes}
 use Rattle.model.specs.Sheet.{horizonAllowed}
 use Rattle.model.proofs.Sheet.{allowed-horizon, horizon-allowed}
-use Rattle.rows.specs.Checks.{notRefused, SoundRows}
+use Rattle.rows.specs.Checks.{notRefused}
 use Rattle.rows.proofs.Checks.{allowed-by-zero, accepted, sound-passes}
 use Rattle.verdict.specs.OneProcessor.{horizonRefusal, refusalOf, Testable}
 

@@ -2,6 +2,7 @@
 use mathlib.Core.Path.{_≡_, refl, sym, _∙_, ap}
 use mathlib.Core.Bool.{Bool, true, false}
 use mathlib.Core.List.{List}
+use mathlib.Core.Logic.{_↔_}
 use Prim.Native.Nat.{ℕ, _≤_}
 use native.Mathlib.Omega.{arith}
 use borrow.Author.Tests.{eqb-true, eqb-false}
@@ -16,7 +17,6 @@ use Rattle.verdict.specs.declared.Outcome.the-variants.{Miss, Fits, Unde
 use Rattle.verdict.specs.declared.Answer.{Answer}
 use Rattle.verdict.specs.OneProcessor.{refusalOf, outcomeOf, verdictOf, outcomeNumber, outcomeValue, refusedAnswer, answered, oneProcessor, Promise, Testable}
 use Rattle.verdict.proofs.Checked.{checked, checked-passes}
-use mathlib.Core.Logic.{_↔_}
 
 -- A verdict in the code's words is read back as itself, and an outcome too.
 pub verdict-back : (v : Verdict) → verdictOf (outcomeOf v) ≡ v
