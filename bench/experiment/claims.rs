@@ -23,57 +23,98 @@ fn part_within(accepted: &[u64], total: &[u64]) -> f64 {
     accepted.iter().sum::<u64>() as f64 / total.iter().sum::<u64>().max(1) as f64
 }
 
-/// The sentences about each experiment.
-fn hold_in_each(experiment: &Experiment, tally: &Tally) {
-    let name = format!(
-        "{} processors, mean {}",
-        experiment.processors, experiment.mean
-    );
-    assert!(
-        covers(&tally.total, &tally.rta) && covers(&tally.rta, &tally.bcl),
-        "order of the curves: {name}"
-    );
-    assert!(
-        part_within(&tally.rta[..6], &tally.total[..6]) > 0.9,
-        "up to a quarter of full use: {name}"
-    );
-    assert!(
-        part_within(&tally.rta[RANGES - 2..], &tally.total[RANGES - 2..]) < 0.01,
-        "near full use: {name}"
-    );
+/// A part in percent, in words.
+fn percent(part: f64) -> String {
+    format!("{:.1} %", 100.0 * part)
 }
 
-/// The sentences about more processors.
-fn hold_between(few: &Tally, many: &Tally) {
-    assert!(
-        part(&few.rta, &few.total) > part(&many.rta, &many.total),
-        "distance to TOT grows with processors"
-    );
-    assert!(
-        part(&few.bcl, &few.rta) > part(&many.bcl, &many.rta),
-        "distance of BCL grows with processors"
-    );
+/// What is not so of one experiment.
+fn broken_in_one(experiment: &Experiment, tally: &Tally) -> Vec<String> {
+    let low = part_within(&tally.rta[..6], &tally.total[..6]);
+    let high = part_within(&tally.rta[RANGES - 2..], &tally.total[RANGES - 2..]);
+    let said = [
+        (
+            covers(&tally.total, &tally.rta) && covers(&tally.rta, &tally.bcl),
+            "the curves are not in the order TOT, RTA, BCL".to_string(),
+        ),
+        (
+            low > 0.9,
+            format!("up to a quarter of full use RTA accepts {} of the sets, and not more than nine of ten", percent(low)),
+        ),
+        (
+            high < 0.01,
+            format!("above 92 % of m RTA accepts {} of the sets, and not fewer than one in a hundred", percent(high)),
+        ),
+    ];
+    let broken = said.into_iter().filter(|(holds, _)| !holds);
+    broken
+        .map(|(_, words)| format!("{}: {words}", experiment.name()))
+        .collect()
 }
 
-/// Breaks off where a sentence of the page would not be true.
-pub fn hold(results: &[(Experiment, Tally)]) {
-    results
+/// What is not so of a step to more processors at the same mean.
+fn broken_between(few: &(Experiment, Tally), many: &(Experiment, Tally)) -> Vec<String> {
+    let rta = |tally: &Tally| part(&tally.rta, &tally.total);
+    let bcl = |tally: &Tally| part(&tally.bcl, &tally.rta);
+    let mut broken = Vec::new();
+    for (what, less, more) in [
+        ("RTA of TOT", rta(&few.1), rta(&many.1)),
+        ("BCL of RTA", bcl(&few.1), bcl(&many.1)),
+    ] {
+        if less <= more {
+            broken.push(format!(
+                "{what} does not fall from {} to {} processors at mean {:.2}: {}, then {}",
+                few.0.processors,
+                many.0.processors,
+                few.0.mean,
+                percent(less),
+                percent(more)
+            ));
+        }
+    }
+    broken
+}
+
+/// What is not so of the step from mean 0.25 to mean 0.50 at the same number of processors.
+fn broken_across(low: &(Experiment, Tally), high: &(Experiment, Tally)) -> Vec<String> {
+    let half = |tally: &Tally| half_point(&tally.rta, &tally.total);
+    let bcl = |tally: &Tally| part(&tally.bcl, &tally.rta);
+    let mut broken = Vec::new();
+    if half(&high.1) < half(&low.1) {
+        broken.push(format!("{} processors: RTA accepts half of the sets up to a lower utilisation at mean 0.50 than at mean 0.25", low.0.processors));
+    }
+    if bcl(&high.1) >= bcl(&low.1) {
+        broken.push(format!(
+            "{} processors: BCL is not further below RTA at mean 0.50 than at mean 0.25",
+            low.0.processors
+        ));
+    }
+    broken
+}
+
+/// What is not so of two processors at mean 0.25, where BCL is close to RTA.
+fn broken_on_two(tally: &Tally) -> Vec<String> {
+    match part(&tally.bcl, &tally.rta) {
+        close if (0.85..0.95).contains(&close) => Vec::new(),
+        far => vec![format!("2 processors, mean utilisation 0.25: BCL accepts {} of the sets that RTA accepts, and not about nine of ten", percent(far))],
+    }
+}
+
+/// The sentences of the page that are not true of the results, each as what is so instead.
+pub fn broken(results: &[(Experiment, Tally)]) -> Vec<String> {
+    let each = results
         .iter()
-        .for_each(|(experiment, tally)| hold_in_each(experiment, tally));
+        .flat_map(|(one, tally)| broken_in_one(one, tally));
     let steps = results
         .windows(2)
-        .filter(|pair| pair[0].0.mean == pair[1].0.mean);
-    steps.for_each(|pair| hold_between(&pair[0].1, &pair[1].1));
-    let two = &results[0].1;
-    assert!(
-        part(&two.bcl, &two.rta) > 0.85,
-        "two processors: BCL close to RTA"
-    );
-    let halves = results.iter().zip(&results[3..]);
-    for ((_, low), (_, high)) in halves {
-        assert!(
-            half_point(&high.rta, &high.total) >= half_point(&low.rta, &low.total),
-            "larger rows reach further up"
-        );
-    }
+        .filter(|pair| pair[0].0.mean == pair[1].0.mean)
+        .flat_map(|pair| broken_between(&pair[0], &pair[1]));
+    let across = results
+        .iter()
+        .zip(&results[3..])
+        .flat_map(|(low, high)| broken_across(low, high));
+    each.chain(steps)
+        .chain(across)
+        .chain(broken_on_two(&results[0].1))
+        .collect()
 }

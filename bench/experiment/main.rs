@@ -1,6 +1,9 @@
-//! The papers' acceptance experiment through the proved program: writes docs/ACCEPTANCE.md and docs/acceptance.svg into a folder.
+//! The papers' acceptance experiment through the proved program.
 //!
-//! experiment FOLDER [SETS]
+//! experiment FOLDER        as many task sets as the paper has: writes ACCEPTANCE.md and acceptance.svg into the folder
+//! experiment FOLDER SETS   so many task sets an experiment: prints the page, and writes nothing unless it is the paper's number
+//!
+//! Exit status: 0, or 1 where a sentence of the page is not so, or 2 where it could not run. Standard error says why.
 
 mod claims;
 mod feasible;
@@ -9,9 +12,10 @@ mod sets;
 mod table;
 
 use sets::{Experiment, Tally};
+use std::sync::atomic::{AtomicUsize, Ordering};
 
-/// How many task sets each experiment looks at; the papers look at 1,000,000.
-const SETS: u64 = 100_000;
+/// How many task sets each experiment of the paper looks at.
+pub const SETS: u64 = 1_000_000;
 
 /// The experiments: processors and mean utilisation.
 const EXPERIMENTS: [Experiment; 6] = [
@@ -41,32 +45,87 @@ const EXPERIMENTS: [Experiment; 6] = [
     },
 ];
 
-/// Runs all experiments at once, each from its own seed.
-fn all(count: u64) -> Vec<(Experiment, Tally)> {
+/// Runs one experiment, and says on standard error that it is done and how many are.
+fn told(experiment: &Experiment, count: u64, done: &AtomicUsize) -> Result<Tally, String> {
+    let tally = experiment.run(count)?;
+    let place = done.fetch_add(1, Ordering::SeqCst) + 1;
+    eprintln!(
+        "acceptance: {place} of {} done: {}",
+        EXPERIMENTS.len(),
+        experiment.name()
+    );
+    Ok(tally)
+}
+
+/// Runs all experiments at once, each from its own seed; the first that breaks off says why.
+fn all(count: u64) -> Result<Vec<(Experiment, Tally)>, String> {
+    let done = AtomicUsize::new(0);
     std::thread::scope(|scope| {
         let running: Vec<_> = EXPERIMENTS
             .iter()
-            .map(|experiment| scope.spawn(move || experiment.run(count)))
+            .map(|experiment| scope.spawn(|| told(experiment, count, &done)))
             .collect();
         let tallies = running
             .into_iter()
             .map(|thread| thread.join().expect("an experiment"));
-        EXPERIMENTS.iter().copied().zip(tallies).collect()
+        let paired = EXPERIMENTS.iter().copied().zip(tallies);
+        paired
+            .map(|(experiment, tally)| Ok((experiment, tally?)))
+            .collect()
     })
 }
 
-fn main() -> std::io::Result<()> {
-    let words: Vec<String> = std::env::args().collect();
-    let folder = words.get(1).map_or(".", String::as_str);
-    let count = words
-        .get(2)
-        .and_then(|digits| digits.parse().ok())
-        .unwrap_or(SETS);
-    let results = all(count);
-    claims::hold(&results);
+/// Writes the page and the picture into a folder.
+fn write(folder: &str, results: &[(Experiment, Tally)]) -> std::io::Result<()> {
     std::fs::write(
         format!("{folder}/ACCEPTANCE.md"),
-        table::page(&results, count),
+        table::page(results, SETS),
     )?;
-    std::fs::write(format!("{folder}/acceptance.svg"), plot::plot(&results))
+    std::fs::write(format!("{folder}/acceptance.svg"), plot::plot(results))
+}
+
+/// Runs the experiments; what is said where a sentence of the page is not so, or a test accepts what it must not.
+fn held(count: u64) -> Result<Vec<(Experiment, Tally)>, String> {
+    let results = all(count)?;
+    let broken = claims::broken(&results);
+    match (broken.is_empty(), count < SETS) {
+        (true, _) => Ok(results),
+        (false, false) => Err(broken.join("\nacceptance: ")),
+        (false, true) => Err(format!(
+            "{}\nacceptance: so few task sets may show that by chance: run it without a number",
+            broken.join("\nacceptance: ")
+        )),
+    }
+}
+
+/// Ends with a reason and a status.
+fn give_up(why: &str, status: i32) -> ! {
+    eprintln!("acceptance: {why}");
+    std::process::exit(status)
+}
+
+/// The folder and the number of task sets that are asked for, if the words say them.
+fn asked(words: &[String]) -> Option<(&str, u64)> {
+    match words {
+        [folder] => Some((folder, SETS)),
+        [folder, digits] => {
+            let count = digits.parse().ok().filter(|&count: &u64| count > 0)?;
+            Some((folder, count))
+        }
+        _ => None,
+    }
+}
+
+fn main() {
+    let words: Vec<String> = std::env::args().skip(1).collect();
+    let Some((folder, count)) = asked(&words) else {
+        give_up("experiment FOLDER [SETS]: SETS is a number above 0", 2)
+    };
+    let results = held(count).unwrap_or_else(|why| give_up(&why, 1));
+    if count != SETS {
+        print!("{}", table::page(&results, count));
+        eprintln!("acceptance: {folder} stays as it is: its page has {SETS} task sets");
+    } else if let Err(why) = write(folder, &results) {
+        give_up(&format!("the page could not be written: {why}"), 2);
+    }
 }

@@ -1,6 +1,7 @@
 //! The curves as a picture: for each experiment the number of task sets by total utilisation, all of them and those accepted.
 
 use crate::sets::{Experiment, Tally, RANGES};
+use crate::table::grouped;
 
 /// The width and height of one experiment's frame, and the margins around it.
 const WIDTH: f64 = 300.0;
@@ -10,12 +11,23 @@ const TOP: f64 = 88.0;
 const ACROSS: f64 = WIDTH + 84.0;
 const DOWN: f64 = HEIGHT + 84.0;
 
-/// How a curve is drawn: its name, its colour, its dashes.
+/// How a curve is drawn: what it counts, its colour, its dashes.
 const CURVES: [(&str, &str, &str); 3] = [
-    ("TOT", "#777777", "none"),
-    ("RTA", "#0b5fa5", "none"),
-    ("BCL", "#c4461a", "5 3"),
+    ("TOT: all that may be feasible", "#777777", "none"),
+    (
+        "RTA: accepted by response-time analysis (Bertogna and Cirinei)",
+        "#0b5fa5",
+        "none",
+    ),
+    (
+        "BCL: accepted by the test of Bertogna, Cirinei and Lipari",
+        "#c4461a",
+        "5 3",
+    ),
 ];
+
+/// Where the key's entries begin, left of the picture's middle and right of it.
+const KEY_STARTS: [f64; 3] = [-555.0, -295.0, 165.0];
 
 /// The number at or above another that ends a good axis: 1, 2, 4 or 8 and zeros.
 fn round_up(number: u64) -> u64 {
@@ -43,7 +55,7 @@ fn axes(processors: u64, most: u64) -> String {
     let mut drawn = String::new();
     for step in 0..=4 {
         let y = HEIGHT - HEIGHT * step as f64 / 4.0;
-        let count = most as f64 * step as f64 / 4.0;
+        let count = grouped(most * step / 4);
         drawn +=
             &format!("<line x1=\"0\" y1=\"{y}\" x2=\"{WIDTH}\" y2=\"{y}\" stroke=\"#dddddd\"/>\n");
         drawn += &format!(
@@ -61,18 +73,18 @@ fn axes(processors: u64, most: u64) -> String {
         "<rect width=\"{WIDTH}\" height=\"{HEIGHT}\" fill=\"none\" stroke=\"#333333\"/>\n"
     );
     drawn += &format!(
-        "<text x=\"{}\" y=\"{}\" text-anchor=\"middle\">total utilisation</text>\n",
+        "<text x=\"{}\" y=\"{}\" text-anchor=\"middle\">total utilisation; m = {processors} processors</text>\n",
         WIDTH / 2.0,
         HEIGHT + 34.0
     );
-    drawn + &format!("<text transform=\"translate(-50,{}) rotate(-90)\" text-anchor=\"middle\">task sets</text>\n", HEIGHT / 2.0)
+    drawn + &format!("<text transform=\"translate(-54,{}) rotate(-90)\" text-anchor=\"middle\">task sets per 4 % of m</text>\n", HEIGHT / 2.0)
 }
 
-/// The names of the curves, each beside a stroke of it, in one line around a middle.
+/// What the curves count, each beside a stroke of it, in one line around a middle.
 fn key(middle: f64) -> String {
     let mut drawn = String::new();
     for (place, (name, colour, dashes)) in CURVES.iter().enumerate() {
-        let start = middle - 110.0 + 80.0 * place as f64;
+        let start = middle + KEY_STARTS[place];
         let end = start + 28.0;
         drawn += &format!(
             "<line x1=\"{start}\" y1=\"42\" x2=\"{end}\" y2=\"42\" stroke=\"{colour}\" stroke-width=\"2\" stroke-dasharray=\"{dashes}\"/>\n"
@@ -91,10 +103,7 @@ fn frame(place: usize, experiment: &Experiment, tally: &Tally) -> String {
     let y = TOP + DOWN * (place / 3) as f64;
     let most = round_up(tally.total.iter().copied().max().unwrap_or(1));
     let mut drawn = format!("<g transform=\"translate({x},{y})\">\n");
-    let title = format!(
-        "{} processors, mean utilisation {:.2}",
-        experiment.processors, experiment.mean
-    );
+    let title = experiment.name();
     drawn += &format!(
         "<text x=\"{}\" y=\"-10\" text-anchor=\"middle\" font-size=\"14\">{title}</text>\n",
         WIDTH / 2.0
@@ -121,7 +130,7 @@ pub fn plot(results: &[(Experiment, Tally)]) -> String {
         .enumerate()
         .map(|(place, (experiment, tally))| frame(place, experiment, tally));
     let frames: String = frames.collect();
-    let title = "Task sets that may be feasible (TOT), and those accepted by RTA and by BCL";
+    let title = "Task sets by total utilisation: all that may be feasible, and those that each test accepts";
     format!(
         "<svg xmlns=\"http://www.w3.org/2000/svg\" viewBox=\"0 0 {width} {height}\" font-family=\"sans-serif\" font-size=\"11\">\n\
          <rect width=\"{width}\" height=\"{height}\" fill=\"white\"/>\n\

@@ -4,7 +4,7 @@ use crate::feasible::{may_be_feasible, total_utilisation};
 use guarded::refine_at_once;
 use second::random::Random;
 use second::rows::{words_of, Row};
-use sheets::exponential_row;
+use sheets::{exponential_row, rows_shown};
 
 /// How many ranges of total utilisation there are, each 4 hundredths of the processors wide.
 pub const RANGES: usize = 25;
@@ -45,22 +45,38 @@ impl Experiment {
         exponential_row(random, self.mean)
     }
 
-    /// Counts one task set.
-    fn count(&self, rows: &[Row], tally: &mut Tally) {
+    /// Its processors and mean, as the page says them.
+    pub fn name(&self) -> String {
+        format!(
+            "{} processors, mean utilisation {:.2}",
+            self.processors, self.mean
+        )
+    }
+
+    /// Counts one task set, or says that BCL accepts it and RTA does not.
+    fn count(&self, rows: &[Row], tally: &mut Tally) -> Result<(), String> {
         let filled = total_utilisation(rows) / self.processors as f64;
         let range = ((filled * RANGES as f64) as usize).min(RANGES - 1);
         let (rta, bcl) = (
             accepts(rows, self.processors, 1),
             accepts(rows, self.processors, 0),
         );
-        assert!(rta || !bcl, "BCL accepts what RTA does not: {rows:?}");
+        if bcl && !rta {
+            return Err(format!(
+                "on {} processors BCL accepts what RTA does not: {}",
+                self.processors,
+                rows_shown(&words_of(rows))
+            ));
+        }
         tally.total[range] += 1;
         tally.rta[range] += rta as u64;
         tally.bcl[range] += bcl as u64;
+        Ok(())
     }
 
     /// Looks at so many task sets: from one row more than processors on, a row is added until the set cannot be feasible.
-    pub fn run(&self, count: u64) -> Tally {
+    /// Breaks off where BCL accepts one that RTA does not.
+    pub fn run(&self, count: u64) -> Result<Tally, String> {
         let mut random = Random::of([self.processors, (self.mean * 100.0) as u64]);
         let mut tally = Tally::default();
         let mut rows: Vec<Row> = Vec::new();
@@ -75,10 +91,10 @@ impl Experiment {
                 rows.clear();
                 continue;
             }
-            self.count(&rows, &mut tally);
+            self.count(&rows, &mut tally)?;
             counted += 1;
             rows.push(self.row(&mut random));
         }
-        tally
+        Ok(tally)
     }
 }

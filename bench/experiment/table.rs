@@ -2,6 +2,15 @@
 
 use crate::claims::{half_point, part};
 use crate::sets::{Experiment, Tally, RANGES};
+use crate::SETS;
+
+/// A number with a comma before each three digits.
+pub fn grouped(number: u64) -> String {
+    match number {
+        0..=999 => number.to_string(),
+        _ => format!("{},{:03}", grouped(number / 1000), number % 1000),
+    }
+}
 
 /// The sum over all ranges.
 fn sum(counts: &[u64; RANGES]) -> u64 {
@@ -22,9 +31,9 @@ fn totals(results: &[(Experiment, Tally)]) -> String {
         table += &format!(
             "| {m} | {:.2} | {} | {} | {} | {:.1} % | {:.1} % | {:.2} | {:.2} |\n",
             experiment.mean,
-            sum(&tally.total),
-            sum(&tally.rta),
-            sum(&tally.bcl),
+            grouped(sum(&tally.total)),
+            grouped(sum(&tally.rta)),
+            grouped(sum(&tally.bcl)),
             100.0 * part(&tally.rta, &tally.total),
             100.0 * part(&tally.bcl, &tally.rta),
             m * half_point(&tally.rta, &tally.total),
@@ -39,7 +48,8 @@ fn cell(tally: &Tally, range: usize) -> String {
     match tally.total[range] {
         0 => String::new(),
         total => format!(
-            "{total}: {:.1} / {:.1}",
+            "{}: {:.1} / {:.1}",
+            grouped(total),
             percent(tally.rta[range], total),
             percent(tally.bcl[range], total)
         ),
@@ -76,7 +86,12 @@ fn by_utilisation(results: &[(Experiment, Tally)]) -> String {
 
 /// The whole page.
 pub fn page(results: &[(Experiment, Tally)], count: u64) -> String {
-    let words = include_str!("words.md").replace("{sets}", &count.to_string());
+    let sets = match count {
+        SETS => ", as in the paper".to_string(),
+        _ => format!("; the paper has {}", grouped(SETS)),
+    };
+    let sets = format!("{} task sets an experiment{sets}", grouped(count));
+    let words = include_str!("words.md").replace("{sets}", &sets);
     words
         .replace("{totals}\n", &totals(results))
         .replace("{by utilisation}\n", &by_utilisation(results))
