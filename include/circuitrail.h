@@ -28,6 +28,12 @@
 extern "C" {
 #endif
 
+/* The version of this header and of the archive. */
+#define CIRCUITRAIL_VERSION "0.1.0"
+
+/* No call takes more bytes of stack than this, memcpy and memset of the host apart. */
+#define CIRCUITRAIL_STACK_BYTES 4096
+
 /* Refusals, in the order in which they are checked. `place` is 0 unless stated. */
 enum {
     CIRCUITRAIL_NOT_REFUSED = 0,
