@@ -27,7 +27,7 @@ const CURVES: [(&str, &str, &str); 3] = [
 ];
 
 /// Where the key's entries begin, left of the picture's middle and right of it.
-const KEY_STARTS: [f64; 3] = [-555.0, -295.0, 165.0];
+const KEY_STARTS: [f64; 3] = [-560.0, -318.0, 152.0];
 
 /// The number at or above another that ends a good axis: 1, 2, 4 or 8 and zeros.
 fn round_up(number: u64) -> u64 {
