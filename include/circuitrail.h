@@ -1,18 +1,38 @@
 /*
- * Circuitrail: schedulability of task sheets, for C and C++. `rt staticlib board` makes the archive to link, target/staticlib/libboard.a.
+ * Circuitrail: whether published tests show that a task sheet meets its deadlines, for C and C++. `rt staticlib board` makes the archive to
+ * link, target/staticlib/libboard.a.
  *
  * A row is a task: its cost C, its relative deadline D and its period T, in whole microseconds. Rows are lent as an array of words,
  * three a row, C then D then T, row 0 first. Two rows with equal numbers are two rows.
  *
  * Sizes allowed: 1 to 64 rows, 1 to 64 processors, 1 <= C <= D <= T <= 1,000,000, a horizon of 1 to 16,777,216.
  *
+ * What an answer is worth. A sheet is accepted if every row is marked: every job then meets its deadline under global EDF, each row within
+ * its bound. Not accepted means that the test could not show it; a deadline need not be missed. A single marked row of a sheet that is not
+ * accepted promises nothing by itself: its bound counts on rows that may be late. All of this rests on:
+ *   - C is a worst case, and already holds what the kernel and interrupts take;
+ *   - T is the least distance between two releases of the row, and D, counted from the release, is at most T;
+ *   - jobs are independent, and wait neither for each other nor for locks;
+ *   - jobs may be preempted and moved at any moment at no further cost, and processors are equal.
+ *
  * Every function here
- *   - takes each array as a pointer and the number of its elements; a pointer to no elements may be NULL;
- *   - reads its input arrays and writes only to the array that its comment names as written; that one must not overlap the others;
+ *   - takes each array as a pointer and the number of its elements; a pointer to no elements may be NULL, and any other is aligned as C asks
+ *     of its type;
+ *   - reads its input arrays and writes only to the array that its comment names as written. That one must not overlap the others: a call
+ *     with arrays that overlap may write anything into them, and may not return;
  *   - allocates nothing, keeps nothing between calls, and may be called from several threads at once; of its host it needs no more than
  *     memcpy, memmove, memset and memcmp;
+ *   - takes less than CIRCUITRAIL_STACK_BYTES of stack;
  *   - answers every input that is so lent: it ends, does not stop the program, and has no way to fail but the refusals below. How long a
  *     question takes depends on the rows, and no limit is promised.
+ *
+ * The archive is for x86-64 under the System V calling convention, which asks for a stack pointer that is a multiple of 16 at a call. It
+ * uses the general registers, the SSE2 registers xmm0 to xmm15, and the red zone, the 128 bytes beneath the stack pointer.
+ *   - A kernel built without SSE has to switch it on in the processor (CR0, CR4) before a call, and, where somebody else's values are in
+ *     xmm0 to xmm15, to save them before the call and restore them behind it; that holds for interrupts during the call too. No argument
+ *     and no answer is in those registers.
+ *   - A kernel built without the red zone has to see that nothing writes beneath the stack pointer during a call: interrupt handlers on a
+ *     stack of their own, or interrupts off.
  *
  * Every answer begins with `refusal` and `place`. Where `refusal` is 0 so is `place`, and the answer stands in the other fields and in
  * the array written. Else `refusal` is the number of the first check that failed, in the order in which the function's comment lists
@@ -28,10 +48,10 @@
 extern "C" {
 #endif
 
-/* The version of this header and of the archive. */
+/* The version of this header and of the archive that is made beside it. */
 #define CIRCUITRAIL_VERSION "0.1.0"
 
-/* No call takes more bytes of stack than this, memcpy and memset of the host apart. */
+/* Every call takes fewer bytes of stack than this. Interrupt handlers that run on the same stack come on top. */
 #define CIRCUITRAIL_STACK_BYTES 4096
 
 /* Refusals, in the order in which they are checked. `place` is 0 unless stated. */
@@ -54,10 +74,10 @@ enum {
 #define CIRCUITRAIL_SHEET_BYTES(n) (7 + 21 * (n))
 #define CIRCUITRAIL_RESULT_BYTES(n) (7 + 11 * (n))
 
-/* Methods: two published tests for global EDF on equal processors. */
+/* Methods: two published tests for global EDF on equal processors. RTA marks every row that BCL marks, with no higher bound. */
 enum {
-    CIRCUITRAIL_BCL = 0,
-    CIRCUITRAIL_RTA = 1
+    CIRCUITRAIL_BCL = 0, /* the test of Bertogna, Cirinei and Lipari */
+    CIRCUITRAIL_RTA = 1  /* the response-time analysis of Bertogna and Cirinei */
 };
 
 /* Outcomes of the exact test for one processor. */
@@ -71,7 +91,8 @@ enum {
 typedef struct {
     uint32_t refusal;
     uint32_t place;
-    uint32_t bound; /* the row's response-time bound, from its C to its D; 0 where the method gives none */
+    uint32_t bound; /* the row's response-time bound, from its C to its D, if every other row keeps to its own in `bounds`; 0 where the
+                       method gives none */
 } circuitrail_row;
 
 /*
@@ -91,13 +112,16 @@ circuitrail_row circuitrail_one_row(const uint32_t *words, size_t words_length, 
 typedef struct {
     uint32_t refusal;
     uint32_t place;
-    uint64_t marks; /* bit k is set exactly if row k is marked; with n rows the sheet is accepted if the n lowest bits are all set */
+    uint64_t marks; /* bit k is set exactly if row k is marked; with n rows the sheet is accepted if the n lowest bits are all set, and
+                       only then does a mark promise anything */
 } circuitrail_refined;
 
 /*
  * The whole sheet refined, by the engine that works in rounds: every row from the bounds at the start of the round, until a round
- * changes nothing. All bounds begin at D. A row is marked if its one-row answer under the final bounds exists; its bound is then its
- * response-time bound. A row that is not marked has its D.
+ * changes nothing. All bounds begin at D. A row is marked if its one-row answer under the final bounds exists. If every row is marked, each
+ * row's bound is its response-time bound. A row that is not marked has its D.
+ *
+ * There are sheets on which this takes an hour where circuitrail_refine_at_once takes microseconds. Both answer the same; call that one.
  *
  * Written: the first n words of `bounds`, one bound a row, where n is the row count. Words behind them are left as they were.
  *
@@ -121,7 +145,8 @@ typedef struct {
 } circuitrail_outcome;
 
 /*
- * Whether the rows fit on one processor, by their demand, as far as lengths up to `horizon` show.
+ * Whether the rows fit on one processor, by their demand, as far as lengths up to `horizon` show. Unlike the two methods above this test
+ * is exact: rows that fit meet every deadline under EDF, and rows with a miss can miss one.
  *
  * A miss is the least length up to the horizon in which the rows demand more than the length. Fits: there is none up to the horizon, and
  * the busy length is at most the horizon; then no length at all demands more than itself. Undecided: neither; ask again with a longer
