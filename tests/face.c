@@ -1,5 +1,5 @@
 /*
- * Calls every function of include/circuitrail.h from C: with case S of the scope document, with inputs that are refused, and with NULL
+ * Calls every function of include/circuitrail.h from C: with case S of docs/RULES.md, with inputs that are refused, and with NULL
  * where there are no elements. Compares every returned field and the whole of the memory lent, and prints a line for each that differs.
  */
 #include "circuitrail.h"

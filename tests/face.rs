@@ -1,4 +1,4 @@
-//! Calls every function of the archive from Rust: with case S of the scope document, with inputs that are refused, with empty slices,
+//! Calls every function of the archive from Rust: with case S of docs/RULES.md, with inputs that are refused, with empty slices,
 //! whose pointer dangles, and with null pointers. Compares every returned struct and the whole of the memory lent, and prints a line
 //! for each that differs.
 
