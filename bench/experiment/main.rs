@@ -84,17 +84,26 @@ fn write(folder: &str, results: &[(Experiment, Tally)]) -> std::io::Result<()> {
     std::fs::write(format!("{folder}/acceptance.svg"), plot::plot(results))
 }
 
-/// Runs the experiments; what is said where a sentence of the page is not so, or a test accepts what it must not.
-fn held(count: u64) -> Result<Vec<(Experiment, Tally)>, String> {
-    let results = all(count)?;
-    let broken = claims::broken(&results);
-    match (broken.is_empty(), count < SETS) {
-        (true, _) => Ok(results),
-        (false, false) => Err(broken.join("\nacceptance: ")),
-        (false, true) => Err(format!(
-            "{}\nacceptance: so few task sets may show that by chance: run it without a number",
-            broken.join("\nacceptance: ")
-        )),
+/// What is said where sentences of the page are not so; of few task sets that they may be too few.
+fn told_broken(broken: &[String], count: u64) -> String {
+    let words = broken.join("\nacceptance: ");
+    match count < SETS {
+        true => format!("{words}\nacceptance: chance may do that with so few task sets: run it without a number"),
+        false => words,
+    }
+}
+
+/// Writes the page where its sentences are so, and prints it for another number of task sets than the paper's.
+fn hand_out(folder: &str, results: &[(Experiment, Tally)], count: u64, broken: &[String]) {
+    if count != SETS {
+        print!("{}", table::page(results, count));
+        eprintln!(
+            "acceptance: {folder} stays as it is: its page has {} task sets",
+            table::grouped(SETS)
+        );
+    } else if broken.is_empty() {
+        let written = write(folder, results);
+        written.unwrap_or_else(|why| give_up(&format!("the page could not be written: {why}"), 2));
     }
 }
 
@@ -121,11 +130,10 @@ fn main() {
     let Some((folder, count)) = asked(&words) else {
         give_up("experiment FOLDER [SETS]: SETS is a number above 0", 2)
     };
-    let results = held(count).unwrap_or_else(|why| give_up(&why, 1));
-    if count != SETS {
-        print!("{}", table::page(&results, count));
-        eprintln!("acceptance: {folder} stays as it is: its page has {SETS} task sets");
-    } else if let Err(why) = write(folder, &results) {
-        give_up(&format!("the page could not be written: {why}"), 2);
+    let results = all(count).unwrap_or_else(|why| give_up(&why, 1));
+    let broken = claims::broken(&results);
+    hand_out(folder, &results, count, &broken);
+    if !broken.is_empty() {
+        give_up(&told_broken(&broken, count), 1);
     }
 }
