@@ -29,8 +29,8 @@
  * The archive is for x86-64 under the System V calling convention, which asks for a stack pointer that is a multiple of 16 at a call. It
  * uses the general registers, the SSE2 registers xmm0 to xmm15, and the red zone, the 128 bytes beneath the stack pointer.
  *   - A kernel built without SSE has to switch it on in the processor (CR0, CR4) before a call, and, where somebody else's values are in
- *     xmm0 to xmm15, to save them before the call and restore them behind it; that holds for interrupts during the call too. No argument
- *     and no answer is in those registers.
+ *     xmm0 to xmm15, to save them before the call and restore them behind it. Whatever interrupts a call, a handler or another task, has to
+ *     leave xmm0 to xmm15 as the call had them. No argument and no answer is in those registers.
  *   - A kernel built without the red zone has to see that nothing writes beneath the stack pointer during a call: interrupt handlers on a
  *     stack of their own, or interrupts off.
  *
