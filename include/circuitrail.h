@@ -121,7 +121,7 @@ typedef struct {
  * changes nothing. All bounds begin at D. A row is marked if its one-row answer under the final bounds exists. If every row is marked, each
  * row's bound is its response-time bound. A row that is not marked has its D.
  *
- * There are sheets on which this takes an hour where circuitrail_refine_at_once takes microseconds. Both answer the same; call that one.
+ * This may take an hour where circuitrail_refine_at_once takes microseconds, and both answer the same: call that one.
  *
  * Written: the first n words of `bounds`, one bound a row, where n is the row count. Words behind them are left as they were.
  *

@@ -126,6 +126,16 @@ static void one_processor(void) {
     is_outcome("no words", circuitrail_one_processor(NULL, 0, 5), CIRCUITRAIL_REFUSED_NO_ROWS, 0, 0, 0);
 }
 
+/* The README's example of a sheet that RTA does not accept on one processor, and that fits there by the exact test. */
+static void not_accepted_and_fits(void) {
+    static const uint32_t full[6] = {2, 4, 4, 3, 6, 6}, deadlines[2] = {4, 6};
+    uint32_t bounds[2];
+    called = "the README's example";
+    is_refined("by RTA", circuitrail_refine_at_once(full, 6, 1, CIRCUITRAIL_RTA, bounds, 2), 0, 0, 0);
+    memory("by RTA", bounds, deadlines, sizeof bounds);
+    is_outcome("by demand", circuitrail_one_processor(full, 6, 16777216), 0, 0, CIRCUITRAIL_FITS, 12);
+}
+
 static void is_read(const char *what, circuitrail_read got, uint32_t refusal, uint32_t place, uint32_t processors, uint32_t rows) {
     number(what, "refusal", got.refusal, refusal);
     number(what, "place", got.place, place);
@@ -215,6 +225,7 @@ int main(void) {
     refine_most_rows("circuitrail_refine_rounds", circuitrail_refine_rounds);
     refine_most_rows("circuitrail_refine_at_once", circuitrail_refine_at_once);
     one_processor();
+    not_accepted_and_fits();
     read_sheet();
     write_sheet();
     write_result();
