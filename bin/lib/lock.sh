@@ -17,11 +17,17 @@ in_own_group() {
   return "$ended"
 }
 
-# Ends what in_own_group still waits for.
+# Ends what in_own_group still waits for, with all that it started; by force what has not ended after two seconds.
 end_group() {
+  local turns=0
   [ -n "$group" ] || return 0
   kill -TERM -- "-$group" 2>/dev/null
   wait "$group" 2>/dev/null
+  while kill -0 -- "-$group" 2>/dev/null && [ "$turns" -lt 40 ]; do
+    sleep 0.05
+    turns=$((turns + 1))
+  done
+  kill -KILL -- "-$group" 2>/dev/null
   group=
 }
 
