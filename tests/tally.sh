@@ -44,7 +44,9 @@ until_holds() {
 # aside COMMAND..: starts a program in a group of its own, as a terminal does, and sets asked to its process. What it writes goes to the file
 # first, what it says to first_said.
 aside() {
-  rm -f running.* first first_said
+  rm -f running.*
+  : >first
+  : >first_said
   set -m
   exec "$@" >first 2>first_said &
   asked=$!
