@@ -148,9 +148,9 @@ hint_for_more() {
   fi
 }
 
-# hint_for_digit BYTE: what was typed in place of a digit, if it is one of the usual slips.
-hint_for_digit() {
-  if stands_among "$1" abcdef; then
+# hint_for_letter BYTE WANTED: what was typed in place of a digit, or of a kind, if it is one of the usual slips.
+hint_for_letter() {
+  if [ "$2" = digit ] && stands_among "$1" abcdef; then
     echo "digits above 9 are capital letters: A to F"
   elif stands_among "$1" oO; then
     echo "that is a letter; the digit is 0"
@@ -196,7 +196,7 @@ hint() {
     hint_for_more "$1"
   elif [ "$wanted" = feed ] && rest_is_blank "$1"; then
     echo "there are spaces at the end of line $line: delete them"
-  elif [ "$wanted" != digit ] || ! hint_for_digit "$byte"; then
+  elif [ "$wanted" = feed ] || ! hint_for_letter "$byte" "$wanted"; then
     hint_for_length "$1" || hint_for_form "$1"
   fi
 }
