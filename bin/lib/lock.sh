@@ -4,11 +4,12 @@
 # The process that is waited for, with all that it started in its group; empty where there is none.
 group=
 
-# Runs a command in a process group of its own and waits for it, so that a signal ends both at once.
+# Runs a command in a process group of its own and waits for it, so that a signal ends both at once. A terminal that stops groups which write
+# to it from behind does not stop this one.
 in_own_group() {
   local ended
   set -m
-  "$@" &
+  { trap '' TTOU && "$@"; } &
   group=$!
   set +m
   wait "$group"
@@ -22,6 +23,7 @@ end_group() {
   local turns=0
   [ -n "$group" ] || return 0
   kill -TERM -- "-$group" 2>/dev/null
+  kill -CONT -- "-$group" 2>/dev/null
   wait "$group" 2>/dev/null
   while kill -0 -- "-$group" 2>/dev/null && [ "$turns" -lt 40 ]; do
     sleep 0.05
