@@ -133,7 +133,9 @@ hint_for_end() {
 # What the mark is with which some editors begin a file, if there is one.
 hint_for_mark() {
   case "${bytes[*]:0:3} " in
-  "239 187 191 ") echo "the file begins with a byte-order mark, which Windows editors add: save it as plain ASCII, or as UTF-8 without the mark" ;;
+  "239 187 191 ")
+    echo "the file begins with a byte-order mark, which Windows editors add: save it as plain ASCII, or as UTF-8 without the mark"
+    ;;
   "255 254 "* | "254 255 "*) echo "the file was saved as UTF-16, as some Windows editors do: save it as plain ASCII" ;;
   *) return 1 ;;
   esac
@@ -210,18 +212,19 @@ form_words() {
 
 # count_words NUMBER: refusals 2, 3 and 4 in words, with the number that was read.
 count_words() {
-  local place=4 digits="characters 5 and 6" what="rows" read
+  local place=4 digits="characters 5 and 6" what="rows" number
   if [ "$1" -eq 4 ]; then place=2 digits="characters 3 and 4" what="processors"; fi
-  read=$(number_at "$place" 2)
-  echo "refusal $1: line 1 announces $read $what, and 1 to 64 are allowed"
-  printf 'hint: it is written %02X in %s of line 1, which is hexadecimal: ten is 0A, and 64 is 40\n' "$read" "$digits"
+  number=$(number_at "$place" 2)
+  echo "refusal $1: line 1 announces $number $what, and 1 to 64 are allowed"
+  printf 'hint: it is written %02X in %s of line 1, which is hexadecimal: ten is 0A, and 64 is 40\n' "$number" "$digits"
 }
 
 # row_words ROW: refusal 8 in words, with each size that is broken.
 row_words() {
   local at=$((7 + 21 * $1)) cost deadline period
   cost=$(number_at $((at + 2)) 6) deadline=$(number_at $((at + 8)) 6) period=$(number_at $((at + 14)) 6)
-  echo "refusal 8: row $1, counted from 0, in line $(($1 + 2)) has C = $cost, D = $deadline, T = $period in decimal; 1 <= C <= D <= T <= 1,000,000 is allowed"
+  printf 'refusal 8: row %s, counted from 0, in line %s has C = %s, D = %s, T = %s in decimal; 1 <= C <= D <= T <= 1,000,000 is allowed\n' \
+    "$1" "$(($1 + 2))" "$cost" "$deadline" "$period"
   if ((cost < 1)); then echo "broken: the cost C is 0, and has to be at least 1"; fi
   if ((cost > deadline)); then echo "broken: the cost C = $cost is above the deadline D = $deadline"; fi
   if ((deadline > period)); then echo "broken: the deadline D = $deadline is above the period T = $period"; fi
