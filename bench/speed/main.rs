@@ -1,6 +1,7 @@
 //! Measures the proved program against the same methods in Rust, and writes docs/BENCHMARKS.md to its output.
 //!
 //! speed          times and instructions of every case
+//! speed short    the first table alone
 //! speed N SIDE   answers case N by a side once, for the instruction counter
 
 mod agreement;
@@ -44,6 +45,7 @@ fn main() {
             let index: usize = index.parse().expect("a case's number");
             println!("{}", sides::measured(&cases[index], side_named(side)));
         }
+        [_, word] if word == "short" => report::print_short(),
         _ => print!("{}", report::report()),
     }
 }

@@ -121,6 +121,14 @@ fn growth_section(mut first: usize) -> String {
     text
 }
 
+/// Prints the first table alone, line by line as it comes.
+pub fn print_short() {
+    println!("| case | time | instructions |\n|---|---|---|");
+    for (index, case) in against_rust().iter().enumerate() {
+        print!("{}", against_rust_line(index, case));
+    }
+}
+
 /// The whole report.
 pub fn report() -> String {
     hold_together();
