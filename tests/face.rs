@@ -1,6 +1,7 @@
 //! Calls every function of the archive from Rust: with case S of docs/RULES.md, with inputs that are refused, with empty slices,
 //! whose pointer dangles, and with null pointers. Compares every returned struct and the whole of the memory lent, and prints a line
-//! for each that differs.
+//! for each that differs. It begins by C's `main`, as `tests/guarded/served.rs` does.
+#![no_main]
 
 use std::fmt::Debug;
 use std::ptr::{null, null_mut};
@@ -240,7 +241,8 @@ fn answer_sheet(tally: &mut Tally) {
     tally.same("answer sheet, S, bytes", out, holding(RESULT));
 }
 
-fn main() {
+#[no_mangle]
+pub extern "C" fn main() -> i32 {
     let mut tally = Tally { passed: 0, failed: 0 };
     one_row(&mut tally);
     for (name, engine) in [("rounds", circuitrail_refine_rounds as Engine), ("at once", circuitrail_refine_at_once)] {
@@ -253,5 +255,5 @@ fn main() {
     write_result(&mut tally);
     answer_sheet(&mut tally);
     println!("{} passed, {} failed", tally.passed, tally.failed);
-    std::process::exit(if tally.failed == 0 { 0 } else { 1 });
+    i32::from(tally.failed > 0)
 }
