@@ -2,6 +2,7 @@
 //! be written, and takes no room in the machine.
 
 use std::ffi::c_void;
+use std::mem::{size_of, size_of_val};
 
 /// The size of a page of memory, or of some of them.
 const PAGE: usize = 4096;
@@ -37,13 +38,13 @@ pub struct Wide<T> {
 
 /// A number of bytes as whole pages.
 fn whole_pages(bytes: usize) -> usize {
-    bytes.next_multiple_of(PAGE)
+    (bytes + PAGE - 1) / PAGE * PAGE
 }
 
 impl<T: Copy> Wide<T> {
     /// Memory with these elements at its front and so many of 0 behind them.
     pub fn new(elements: &[T], behind: usize) -> Wide<T> {
-        let front_bytes = whole_pages(std::mem::size_of_val(elements));
+        let front_bytes = whole_pages(size_of_val(elements));
         let bytes = front_bytes + whole_pages(behind * size_of::<T>());
         // SAFETY: the kernel chooses where; the front is as long as the elements, and only the front is made writable.
         let start = unsafe {

@@ -26,7 +26,7 @@ pub fn misses(demand: u64, length: u64) -> bool {
 
 /// The jobs of a row that can begin within a length.
 pub fn jobs_begun(row: Row, length: u64) -> u64 {
-    length.div_ceil(row.period)
+    length / row.period + u64::from(length % row.period > 0)
 }
 
 /// Whether the cost of all jobs that can begin within a length fills it exactly.

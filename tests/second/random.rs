@@ -16,6 +16,16 @@ impl Random {
         random
     }
 
+    /// A generator that goes on from a state.
+    pub fn from_state(state: u64) -> Random {
+        Random { state }
+    }
+
+    /// The state that the generator is in.
+    pub fn state(&self) -> u64 {
+        self.state
+    }
+
     /// The next 64 random bits.
     pub fn bits(&mut self) -> u64 {
         self.state = self.state.wrapping_add(0x9E37_79B9_7F4A_7C15);

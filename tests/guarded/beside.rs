@@ -1,0 +1,83 @@
+//! Calls that are made by another program, `served`, which stands beside this one and is run for each thread.
+
+use crate::seen::{Seen, CALLS};
+use crate::wire::{receive_seen, send_call};
+use second::call::{Behind, Call, Entry};
+use second::random::Random;
+use std::cell::RefCell;
+use std::io::{BufReader, Result};
+use std::process::{Child, ChildStdin, ChildStdout, Command, Stdio};
+use std::sync::atomic::Ordering;
+
+/// The other program, as it runs: what it is asked by, and what it answers by.
+struct Served {
+    program: Child,
+    asked: Option<ChildStdin>,
+    told: BufReader<ChildStdout>,
+}
+
+thread_local! {
+    static SERVED: RefCell<Served> = RefCell::new(Served::started().expect("the program 'served' beside this one does not run"));
+}
+
+impl Served {
+    /// Starts the other program.
+    fn started() -> Result<Served> {
+        let mut program = Command::new(std::env::current_exe()?.with_file_name("served"))
+            .stdin(Stdio::piped())
+            .stdout(Stdio::piped())
+            .spawn()?;
+        Ok(Served {
+            asked: program.stdin.take(),
+            told: BufReader::new(program.stdout.take().unwrap()),
+            program,
+        })
+    }
+
+    /// Has a call made.
+    fn made(&mut self, call: &Call, random: &mut Random) -> Result<Seen> {
+        send_call(self.asked.as_mut().unwrap(), call, random)?;
+        let (seen, behind) = receive_seen(&mut self.told)?;
+        *random = behind;
+        Ok(seen)
+    }
+}
+
+impl Drop for Served {
+    /// Tells the other program that there are no more calls, and waits for its end.
+    fn drop(&mut self) {
+        self.asked = None;
+        let _ = self.program.wait();
+    }
+}
+
+/// Has a call made, with guards and old output contents drawn from a random generator.
+pub fn made(call: &Call, random: &mut Random) -> Seen {
+    CALLS.fetch_add(1, Ordering::Relaxed);
+    let made = |served: &RefCell<Served>| served.borrow_mut().made(call, random);
+    SERVED.with(made).unwrap_or_else(|why| {
+        eprintln!("the program for x86-64 broke off in a call ({why}):\n{call:?}");
+        std::process::abort()
+    })
+}
+
+/// The whole sheet refined by the at-once engine: the marks; the bounds are written to the words lent.
+pub fn refine_at_once(words: &[u32], processors: u32, method: u32, bounds: &mut [u32]) -> u64 {
+    let call = Call {
+        entry: Entry::RefineAtOnce,
+        words: words.to_vec(),
+        processors,
+        method,
+        bounds: Vec::new(),
+        row: 0,
+        horizon: 0,
+        text: Vec::new(),
+        behind: Behind::default(),
+        room: bounds.len(),
+    };
+    let seen = made(&call, &mut Random::of([0]));
+    for (bound, word) in bounds.iter_mut().zip(&seen.after) {
+        *bound = *word as u32;
+    }
+    seen.numbers[2]
+}
