@@ -1,11 +1,12 @@
-//! Calls that are made by another program, `served`, which stands beside this one and is run for each thread.
+//! Calls that are made by another program, `served`, which stands beside this one and is run for each thread. Nothing can be told without
+//! it: where it does not run, or breaks off, this program ends.
 
 use crate::seen::{Seen, CALLS};
 use crate::wire::{receive_seen, send_call};
 use second::call::{Behind, Call, Entry};
 use second::random::Random;
 use std::cell::RefCell;
-use std::io::{BufReader, Result};
+use std::io::{BufReader, Error, Result};
 use std::process::{Child, ChildStdin, ChildStdout, Command, Stdio};
 use std::sync::atomic::Ordering;
 
@@ -17,7 +18,13 @@ struct Served {
 }
 
 thread_local! {
-    static SERVED: RefCell<Served> = RefCell::new(Served::started().expect("the program 'served' beside this one does not run"));
+    static SERVED: RefCell<Served> = RefCell::new(Served::started().unwrap_or_else(|why| end("is not there", why)));
+}
+
+/// Ends this program, from whatever thread, with what happened to the other one.
+fn end(what: &str, why: Error) -> ! {
+    eprintln!("the program 'served' beside this one {what}: {why}");
+    std::process::exit(2)
 }
 
 impl Served {
@@ -55,10 +62,9 @@ impl Drop for Served {
 pub fn made(call: &Call, random: &mut Random) -> Seen {
     CALLS.fetch_add(1, Ordering::Relaxed);
     let made = |served: &RefCell<Served>| served.borrow_mut().made(call, random);
-    SERVED.with(made).unwrap_or_else(|why| {
-        eprintln!("the program for x86-64 broke off in a call ({why}):\n{call:?}");
-        std::process::abort()
-    })
+    SERVED
+        .with(made)
+        .unwrap_or_else(|why| end(&format!("broke off in {call:?}"), why))
 }
 
 /// The whole sheet refined by the at-once engine: the marks; the bounds are written to the words lent.
