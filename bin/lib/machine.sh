@@ -38,9 +38,8 @@ find_tools() {
   rust_compiler=("$(rust_for_x86_64)" --target x86_64-unknown-linux-gnu -C linker="$c_compiler")
 }
 
-# Debian's packages of the tools for x86-64 code that are missing here.
+# Debian's packages of the tools for x86-64 code that are missing here. The C compiler's brings what reads such code too.
 missing_packages() {
-  type -P x86_64-linux-gnu-objdump >/dev/null || echo binutils-x86-64-linux-gnu
   [ -e "$(x86_64-linux-gnu-gcc -print-file-name=crt1.o 2>/dev/null)" ] || echo gcc-x86-64-linux-gnu libc6-dev-amd64-cross
   [ -n "$(rust_for_x86_64)" ] || echo rustc libstd-rust-dev:amd64
 }
