@@ -1,9 +1,9 @@
 -- Laws of a choice by a test, and of answers that may be missing.
-use mathlib.Core.Path.{_≡_, refl, sym, _∙_}
+use mathlib.Core.Path.{_≡_, refl, sym, _∙_, ap}
 use mathlib.Core.Bool.{Bool, true, false, _&&_}
 use mathlib.Core.Option.{Option, none, some}
 use Prim.Native.Nat.{ℕ, _≤_}
-use native.Mathlib.Nat.{le-refl, le-trans}
+use native.Mathlib.Nat.{le-refl, le-trans, le-antisymm}
 use native.Mathlib.Omega.{arith}
 use borrow.Author.Tests.{eq-eqb, ne-eqb, eqb-true}
 use lib.Dec.{eqb}
@@ -68,6 +68,19 @@ better-trans (some x) none none h k = tt
 better-trans (some x) none (some z) h k = absurd k
 better-trans (some x) (some y) none h k = tt
 better-trans (some x) (some y) (some z) h k = le-trans h k
+
+-- Two answers, each better than the other, are the same.
+pub better-antisymm : (a b : Option ℕ) → Better a b → Better b a → a ≡ b
+better-antisymm none none h k = refl
+better-antisymm none (some y) h k = absurd h
+better-antisymm (some x) none h k = absurd k
+better-antisymm (some x) (some y) h k = ap {B = Option ℕ} some (le-antisymm h k)
+
+-- An answer better than whatever number another gives is better than it.
+pub better-where : (a b : Option ℕ) → ((x : ℕ) → b ≡ some x → Better a (some x)) → Better a b
+better-where none none each = tt
+better-where (some x) none each = tt
+better-where a (some y) each = each y refl
 
 -- Where the worse answer exists, so does the better one.
 pub better-exists : (a b : Option ℕ) → Better a b → isSome b ≡ true → isSome a ≡ true

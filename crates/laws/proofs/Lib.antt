@@ -4,6 +4,7 @@ pub mod Sum
 pub mod Concave
 pub mod Search
 pub mod Climb
+pub mod Along
 pub mod Fill
 pub mod Cuts
 pub mod Bits

@@ -1,5 +1,5 @@
 -- A search gives what it says: the first that passes, and none only where none passes. By induction on the length of the range.
-use mathlib.Core.Path.{_≡_, refl, ap}
+use mathlib.Core.Path.{_≡_, refl, ap, ap₂}
 use mathlib.Core.Bool.{Bool, true, false}
 use mathlib.Core.Logic.{⊎-elim}
 use mathlib.Core.Option.{Option, none, some}
@@ -56,3 +56,11 @@ searched-unique test a n (some x) (some y) h k =
 -- The meaning fixes the answer.
 pub least-fixed : (test : ℕ → Bool) (a n : ℕ) (r : Option ℕ) → Searched test a n r → least test a n ≡ r
 least-fixed test a n r h = searched-unique test a n (least test a n) r (least-means test a n) h
+
+-- Tests that agree in the range find the same.
+pub least-same : (f g : ℕ → Bool) (a n : ℕ) → ((x : ℕ) → a ≤ x → x < a + n → f x ≡ g x) → least f a n ≡ least g a n
+unfolding least
+least-same f g a zero each = refl
+least-same f g a (suc n) each =
+    ap₂ (λ (passes : Bool) (later : Option ℕ). pick passes (some a) later) (each a (le-refl a) (omega arith))
+    (least-same f g (suc a) n (λ x from below. each x (omega arith) (omega arith)))

@@ -4,4 +4,5 @@ pub mod Search
 pub mod Climb
 pub mod Fill
 pub mod Bits
+pub mod Along
 pub mod Inner

@@ -6,7 +6,9 @@ pub mod Refine
 pub mod Ray
 pub mod Lines
 pub mod Engines
+pub mod Along
 pub mod Methods
 pub mod Demand
+pub mod Alike
 pub mod Numbers
 pub mod Slips
