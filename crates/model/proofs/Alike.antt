@@ -5,7 +5,6 @@ use mathlib.Core.List.{List}
 use Prim.Native.Nat.{ℕ, _*_, _<_}
 use native.Mathlib.Nat.{le-refl}
 use native.Mathlib.Omega.{arith}
-use lib.Dec.{ltb, eqb}
 use lib.ListN.{getD}
 use Rattle.laws.specs.Choice.{isSome}
 use Rattle.laws.specs.Sum.{total}
@@ -119,6 +118,4 @@ module _ (s t : Sheet) (alike : Alike s t) where
   pub verdict-alike : (h : ℕ) → verdict s h ≡ verdict t h
   unfolding verdict firstMiss busyLength
   verdict-alike h =
-      ap₂ judged
-      (least-same (λ l. ltb l (demand s l)) (λ l. ltb l (demand t l)) 1 h (λ l from below. ap (ltb l) (demand-alike l)))
-      (least-same (λ l. eqb l (busy s l)) (λ l. eqb l (busy t l)) 1 h (λ l from below. ap (eqb l) (busy-alike l)))
+      ap₂ judged (least-same _ _ _ _ (λ l from below. rw (demand-alike l))) (least-same _ _ _ _ (λ l from below. rw (busy-alike l)))

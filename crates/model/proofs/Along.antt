@@ -35,7 +35,7 @@ pub record Eases (s : Sheet) (m k : ℕ) (Q : List ℕ) (t : Sheet) (m′ j : �
   pub by-bcl : bclValue s m k Q ≤ bclValue t m′ j R
   pub by-rta : (x : ℕ) → rtaRight s m k Q x ≤ rtaRight t m′ j R x
 
--- If BCL's value is at most some X within the deadline, it is BCL's answer.
+-- If some X within the deadline is no less than BCL's value, BCL's answer exists and is at most X.
 bcl-below : (s : Sheet) (m k : ℕ) (R : List ℕ) (x : ℕ) → x ≤ s .deadline k → bclValue s m k R ≤ x → Better (bclAnswer s m k R) (some x)
 unfolding bclAnswer
 bcl-below s m k R x within lower =
@@ -58,28 +58,23 @@ answer-eases s m k Q t m′ j R eases RTA =
     (le-trans (eases .by-rta x) (le-of-eq (sym (response .solves)))))
 
 -- The same row in the same window, with a smaller bound, has the smaller share.
-same-share : (c c′ d d′ p p′ w w′ r r′ : ℕ) → c ≡ c′ → d ≡ d′ → p ≡ p′ → w ≡ w′ → r ≤ r′ → share c d p r w ≤ share c′ d′ p′ r′ w′
-same-share c c′ d d′ p p′ w w′ r r′ cost deadline period window lower = rw (cost, deadline, period, window) (share-mono c′ d′ p′ w′ r r′ lower)
+same-share : {c c′ d d′ p p′ w w′ r r′ : ℕ} → c ≡ c′ → d ≡ d′ → p ≡ p′ → w ≡ w′ → r ≤ r′ → share c d p r w ≤ share c′ d′ p′ r′ w′
+same-share cost deadline period window lower = rw (cost, deadline, period, window) (share-mono _ _ _ _ _ _ lower)
 
 -- And does less work.
-same-work : (c c′ p p′ r r′ x : ℕ) → c ≡ c′ → p ≡ p′ → r ≤ r′ → work c p r x ≤ work c′ p′ r′ x
-same-work c c′ p p′ r r′ x cost period lower = rw (cost, period) (work-mono c′ p′ r r′ x x lower (le-refl x))
+same-work : {c c′ p p′ r r′ : ℕ} (x : ℕ) → c ≡ c′ → p ≡ p′ → r ≤ r′ → work c p r x ≤ work c′ p′ r′ x
+same-work x cost period lower = rw (cost, period) (work-mono _ _ _ _ x x lower (le-refl x))
 
 module _ (s t : Sheet) (e : ℕ → ℕ) (lies : LiesIn s t e) (k : ℕ) (here : k < s .rows) (Q R : List ℕ) (under : UnderAlong e (s .rows) Q R) where
   -- Where each row lies its share is no smaller.
   share-along : (i : ℕ) → i < s .rows → shareOf s k Q i ≤ shareOf t (e k) R (e i)
   unfolding shareOf
-  share-along i h =
-      same-share (s .cost i) (t .cost (e i)) (s .deadline i) (t .deadline (e i)) (s .period i) (t .period (e i)) (s .deadline k)
-      (t .deadline (e k)) (getD Q i 0) (getD R (e i) 0) (lies .cost i h) (lies .deadline i h) (lies .period i h) (lies .deadline k here)
-      (under i h)
+  share-along i h = same-share (lies .cost i h) (lies .deadline i h) (lies .period i h) (lies .deadline k here) (under i h)
 
   -- Nor is its work.
   work-along : (x i : ℕ) → i < s .rows → workOf s Q x i ≤ workOf t R x (e i)
   unfolding workOf
-  work-along x i h =
-      same-work (s .cost i) (t .cost (e i)) (s .period i) (t .period (e i)) (getD Q i 0) (getD R (e i) 0) x (lies .cost i h)
-      (lies .period i h) (under i h)
+  work-along x i h = same-work x (lies .cost i h) (lies .period i h) (under i h)
 
   -- Both right sides are no larger, with as many processors.
   lies-eases : (m : ℕ) → Eases s m k Q t m (e k) R
