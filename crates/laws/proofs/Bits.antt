@@ -3,13 +3,14 @@ use mathlib.Core.Path.{_≡_, refl, sym, _∙_, ap, ap₂}
 use mathlib.Core.Bool.{Bool, true, false, _&&_}
 use mathlib.Core.Logic.{⊎-elim}
 use Prim.Native.Nat.{ℕ, zero, suc, _+_, _*_, _-_, _^_, _/_, _%_, _≤_, _<_}
-use native.Mathlib.Nat.{eq-or-lt-of-le, le-of-suc-le-suc, le-step, le-dest, lt-suc-self, two-pow-succ, pow-succ', div-eq-of-lt, lt-of-lt-of-le, add-mul-div-right, add-mul-mod-self-right, add-comm, mul-assoc, div-div-eq-div-mul, div-one}
+use native.Mathlib.Nat.{le-refl, eq-or-lt-of-le, le-of-suc-le-suc, le-step, le-dest, lt-suc-self, two-pow-succ, pow-succ', div-eq-of-lt, lt-of-lt-of-le, add-mul-div-right, add-mul-mod-self-right, add-comm, mul-assoc, div-div-eq-div-mul, div-one}
 use native.Mathlib.Numerals.{add-one}
 use native.Mathlib.Omega.{arith}
+use lib.Dec.{eqb}
 use lib.Arith.{digits-div}
 use lib.Pow.{pow-pos, pow-mono, pow-add}
 use Rattle.laws.specs.Sum.{total}
-use Rattle.laws.specs.Bits.{bit, bits, bitAt, every}
+use Rattle.laws.specs.Bits.{bit, bits, bitAt, isSet, every}
 use Rattle.laws.proofs.Choice.{never-both, and-left, and-right, and-both}
 use Rattle.laws.proofs.Sum.{total-same}
 
@@ -46,6 +47,11 @@ bit-lowest : (b : Bool) → bit b % 2 ≡ bit b
 bit-lowest true = refl
 bit-lowest false = refl
 
+-- A bit is 1 exactly where it was set.
+pub bit-set : (b : Bool) → eqb (bit b) 1 ≡ b
+bit-set true = refl
+bit-set false = refl
+
 -- The highest bit of a number is the one that was added last.
 highest : (x n : ℕ) (b : Bool) → x < 2 ^ n → bitAt (x + bit b * 2 ^ n) n ≡ bit b
 highest x n b small = rw (add-comm x (bit b * 2 ^ n), digits-div (bit b) small) (bit-lowest b)
@@ -67,9 +73,12 @@ bits-at f (suc n) j h =
     (λ (before : j < n). rw bits-more (above-leaves (bits f n) (bit (f n)) n j before ∙ bits-at f n j before))
     (eq-or-lt-of-le (le-of-suc-le-suc h))
 
--- From the count on every bit is 0.
+-- Past the bits that a number has every bit is 0.
+pub bit-past : (number n j : ℕ) → number < 2 ^ n → n ≤ j → bitAt number j ≡ 0
+bit-past number n j small h = rw (div-eq-of-lt (lt-of-lt-of-le small (pow-mono h)))
+
 pub bits-past : (f : ℕ → Bool) (n j : ℕ) → n ≤ j → bitAt (bits f n) j ≡ 0
-bits-past f n j h = rw (div-eq-of-lt (lt-of-lt-of-le (bits-below f n) (pow-mono h)))
+bits-past f n j h = bit-past (bits f n) n j (bits-below f n) h
 
 -- Numbers made of the same tests are the same.
 pub bits-same : (f g : ℕ → Bool) (n : ℕ) → ((k : ℕ) → k < n → f k ≡ g k) → bits f n ≡ bits g n
@@ -103,6 +112,12 @@ every-fails f n k h failed = decided (every f n) refl
     decided : (b : Bool) → every f n ≡ b → b ≡ false
     decided true all = absurd (never-both (every-each f n all k h) failed)
     decided false all = refl
+
+-- Not every bit of a number is set past those that it has.
+pub every-past : (number n rows : ℕ) → number < 2 ^ n → n < rows → every (isSet number) rows ≡ false
+unfolding isSet
+every-past number n rows small h =
+    every-fails _ _ n h (ap (λ (x : ℕ). eqb x 1) (bit-past number n n small (le-refl n)))
 
 -- What passes up to n and at n passes up to n + 1.
 pub every-more : (f : ℕ → Bool) (n : ℕ) → every f n ≡ true → f n ≡ true → every f (n + 1) ≡ true

@@ -1,6 +1,7 @@
 -- The number whose bits are given, lowest first.
 use mathlib.Core.Bool.{Bool, true, _&&_}
 use Prim.Native.Nat.{ℕ, zero, suc, _*_, _^_, _/_, _%_}
+use lib.Dec.{eqb}
 use Rattle.laws.specs.Choice.{pick}
 use Rattle.laws.specs.Sum.{total}
 
@@ -15,6 +16,10 @@ bits f n = total (λ k. bit (f k) * 2 ^ k) n
 -- Bit j of a number.
 abbrev pub bitAt : ℕ → ℕ → ℕ
 bitAt number j = number / 2 ^ j % 2
+
+-- Whether bit j of a number is set.
+unfoldable pub isSet : ℕ → ℕ → Bool
+isSet number j = eqb (bitAt number j) 1
 
 -- Whether f holds at every place below n.
 unfoldable pub every : (ℕ → Bool) → ℕ → Bool

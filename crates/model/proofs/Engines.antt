@@ -7,12 +7,14 @@ use mathlib.Core.Option.{Option, none, some}
 use Prim.Native.Nat.{ℕ, _<_}
 use native.Mathlib.Nat.{le-of-eq, le-trans}
 use native.Mathlib.Omega.{arith}
+use lib.Dec.{eqb}
 use lib.ListN.{getD}
 use Rattle.laws.specs.Choice.{orElse, isSome, Better}
 use Rattle.laws.specs.Fill.{Below}
+use Rattle.laws.specs.Bits.{isSet, every}
 use Rattle.laws.proofs.Choice.{never-both, better-orElse, better-trans, better-exists}
 use Rattle.laws.proofs.Fill.{below-antisymm}
-use Rattle.laws.proofs.Bits.{bits-below, bits-at, bits-past, every-each, each-every, every-full, full-every}
+use Rattle.laws.proofs.Bits.{bit-set, bits-below, bits-at, bits-past, every-each, each-every, every-same, every-full, full-every}
 use Rattle.model.specs.Sheet.{Sheet}
 use Rattle.model.specs.Refine.{Ask, deadlines, turn, round, sweep, until, passes, rounds, atOnce, marked, marks, accepted, Consistent, Supported, Largest, SameEnd, MarksSay, Dominates}
 use Rattle.model.specs.Inner.{Held}
@@ -28,6 +30,12 @@ marks-say s ask R =
       past = bits-past (marked ask R) (s .rows);
       full = (every-full (marked ask R) (s .rows), full-every (marked ask R) (s .rows));
     }
+
+-- Whether all marks are set is whether the sheet is accepted.
+pub accepted-by-marks : (s : Sheet) (ask : Ask) (R : List ℕ) → every (isSet (marks s ask R)) (s .rows) ≡ accepted s ask R
+unfolding accepted isSet
+accepted-by-marks s ask R =
+    every-same _ _ (s .rows) (λ k h. ap (λ (x : ℕ). eqb x 1) (marks-say s ask R .each k h) ∙ bit-set (marked ask R k))
 
 -- A row not marked has its deadline in a consistent set.
 pub unmarked-deadline : (s : Sheet) (ask : Ask) (R : List ℕ) → Consistent s ask R → (k : ℕ) → k < s .rows → marked ask R k ≡ false

@@ -57,6 +57,13 @@ pub count-allowed : (n : ℕ) → 1 ≤ n → n ≤ 64 → rowsAllowed n ≡ tru
 unfolding rowsAllowed
 count-allowed = limit-within 64
 
+-- So an allowed sheet has at least one row, and at most 64.
+pub some-rows : (s : Sheet) → Allowed s → 1 ≤ s .rows
+some-rows s allowed = allowed-count (s .rows) (allowed .count) .0
+
+pub few-rows : (s : Sheet) → Allowed s → s .rows ≤ 64
+few-rows s allowed = allowed-count (s .rows) (allowed .count) .1
+
 -- 1 to 64 processors.
 pub allowed-processors : (m : ℕ) → processorsAllowed m ≡ true → (1 ≤ m) × (m ≤ 64)
 unfolding processorsAllowed
