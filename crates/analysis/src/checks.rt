@@ -12,8 +12,9 @@ ghost use mathlib.Core.Path.{_≡_};
 ghost use Prim.Native.Nat.{_≤_, _<_};
 ghost use lib.ListN.{length};
 ghost use Rattle.laws.specs.Bits.{every};
-ghost use Rattle.rows.specs.Words.{rowCount, sheetOf};
-ghost use Rattle.refinement.specs.Question.{boundAllowed, questionAllowed, oneRowRefusal};
+ghost use Rattle.rows.specs.Words.{sheetOf};
+ghost use Rattle.rows.specs.Checks.{notWhole};
+ghost use Rattle.refinement.specs.Question.{boundAllowed, questionAllowed, oneRowRefusalOf};
 ghost use Rattle.refinement.specs.Refinement.{refineRefusal};
 
 // Whether the bound of a row lies from its cost to its deadline.
@@ -45,7 +46,7 @@ pub(crate) fn bounds_allowed(words: &[u32], bounds: &[u32], count: u32) -> bool
 
 // Whether the row number and the bounds fit the sheet.
 pub(crate) fn question_allowed(words: &[u32], bounds: &[u32], row: u32) -> bool
-    requires { ⌜ rowCount (now words) ≤ 64 ⌝ }
+    requires { ⌜ (sheetOf (now words)) .rows ≤ 64 ⌝ }
     ensures { λ r. ⌜ r ≡ questionAllowed (sheetOf (now (words .entry))) (now (bounds .entry)) row ⌝ }
 {
     let count = row_count(words) as u32;
@@ -66,7 +67,7 @@ pub(crate) fn question_refusal(
     bounds: &[u32],
     row: u32,
 ) -> Refusal
-    ensures { λ r. ⌜ r ≡ oneRowRefusal (now (words .entry)) processors method (now (bounds .entry)) row ⌝ }
+    ensures { λ r. ⌜ r ≡ oneRowRefusalOf (notWhole (now (words .entry))) (sheetOf (now (words .entry))) processors method (now (bounds .entry)) row ⌝ }
 {
     let four = processors_refusal(processors);
     let five = method_refusal(method);

@@ -5,6 +5,7 @@ use checks::question_refusal;
 use checks::refine_refusal;
 use engines::run_at_once;
 use engines::run_rounds;
+use marks::all_marked;
 use refinement::OneRow;
 use refinement::Refined;
 use rows::Found;
@@ -12,6 +13,7 @@ use rows::row_count;
 use turns::answer_quickly;
 ghost use mathlib.Core.Path.{_≡_};
 ghost use lib.ListN.{length};
+ghost use Rattle.laws.specs.Bits.{isSet, every};
 ghost use Rattle.model.specs.Refine.{rounds, atOnce};
 ghost use Rattle.refinement.specs.Question.{oneRow};
 ghost use Rattle.refinement.specs.Refinement.{refined, refinedWords};
@@ -84,4 +86,14 @@ pub fn refine_at_once(words: &[u32], processors: u32, method: u32, bounds: &mut 
         place: 0,
         marks: marks,
     }
+}
+
+// Whether a sheet of so many rows is accepted: every row is marked. There is no mark past the 64th row.
+pub fn accepted(marks: u64, rows: u32) -> bool
+    ensures { λ r. ⌜ r ≡ every (isSet marks) rows ⌝ }
+{
+    if 64 < rows {
+        return false;
+    }
+    all_marked(marks, rows) == 1
 }

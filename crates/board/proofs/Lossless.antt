@@ -5,15 +5,18 @@ use Prim.Native.Nat.{ℕ, _≤_}
 use native.Mathlib.Decide.{ℕ-discrete}
 use native.Mathlib.Omega.{arith}
 use Rattle.laws.proofs.Choice.{one-answer}
+use Rattle.model.specs.Sheet.{Sheet}
 use Rattle.model.specs.Answer.{methodOf}
 use Rattle.model.proofs.Methods.{answer-regular}
+use Rattle.model.proofs.Sheet.{row-sized}
 use Rattle.rows.specs.declared.Found.{Found}
 use Rattle.rows.specs.declared.Found.the-variants.{At, Nowhere}
+use Rattle.rows.specs.declared.Refusal.{Refusal}
 use Rattle.rows.specs.Words.{sheetOf, boundOr, boundNumber}
+use Rattle.rows.specs.Checks.{notWhole}
 use Rattle.rows.proofs.Words.{found-some}
-use Rattle.rows.proofs.Checks.{sound-row}
 use Rattle.refinement.specs.declared.OneRow.{OneRow}
-use Rattle.refinement.specs.Question.{oneRowRefusal, oneRow}
+use Rattle.refinement.specs.Question.{oneRowRefusalOf, oneRowOf, oneRow}
 use Rattle.refinement.proofs.Question.{asked, one-row-answered, one-row-refused, one-row-keeps}
 use Rattle.verdict.specs.declared.Answer.{Answer}
 use Rattle.verdict.specs.OneProcessor.{oneProcessor}
@@ -28,17 +31,23 @@ Positive found = (bound : ℕ) → found ≡ At bound → 1 ≤ bound
 
 -- The entry answers no bound of 0.
 pub bound-positive : (words : List ℕ) (m method : ℕ) (R : List ℕ) (row : ℕ) → Positive ((oneRow words m method R row) .answer)
-bound-positive words m method R row = decided (ℕ-discrete ((oneRowRefusal words m method R row) .number) 0)
+bound-positive words m method R row = decided (ℕ-discrete (refusal .number) 0)
   where
-    decided : Dec ((oneRowRefusal words m method R row) .number ≡ 0) → Positive ((oneRow words m method R row) .answer)
+    s : Sheet
+    s = sheetOf words
+
+    refusal : Refusal
+    refusal = oneRowRefusalOf (notWhole words) s m method R row
+
+    decided : Dec (refusal .number ≡ 0) → Positive ((oneRowOf refusal s m method R row) .answer)
     decided (yes zero) =
-        rw (one-row-answered words m method R row zero)
+        rw (one-row-answered refusal s m method R row zero)
         (λ bound found.
-        let known = asked words m method R row zero in
-        let from-cost = answer-regular (methodOf method) (sheetOf words) m .within row R bound (found-some _ bound found) in
-        omega (arith, from-cost .0, sound-row words (known .ready .rows) row (known .there) .positive))
+        let known = asked _ s m method R row zero in
+        let from-cost = answer-regular (methodOf method) s m .within row R bound (found-some _ bound found) in
+        omega (arith, from-cost .0, row-sized s (known .posed .sizes) row (known .there) .positive))
     decided (no one-refused) =
-        rw (one-row-refused words m method R row (oneRowRefusal words m method R row) refl one-refused)
+        rw (one-row-refused refusal s m method R row refusal refl one-refused)
         (λ bound found. let clash : _≡_ {A = ℕ} 0 1 = cc in absurd (omega arith))
 
 -- So the number of an answer fixes it.
@@ -68,12 +77,12 @@ outcome-fixed r q same =
 pub row-zero : (words : List ℕ) (m method : ℕ) (R : List ℕ) (row : ℕ) → ((rowInNumbers (oneRow words m method R row)) .refusal ≡ 0 → ⊥)
     → (rowInNumbers (oneRow words m method R row)) .bound ≡ 0
 unfolding rowInNumbers boundOr
-row-zero words m method R row one-holds = ap boundNumber (one-row-keeps words m method R row .nothing one-holds)
+row-zero words m method R row one-holds = ap boundNumber (one-row-keeps _ (sheetOf words) m method R row .nothing one-holds)
 
 pub outcome-zeros : (words : List ℕ) (h : ℕ) → ((outcomeInNumbers (oneProcessor words h)) .refusal ≡ 0 → ⊥)
     → ((outcomeInNumbers (oneProcessor words h)) .outcome ≡ 0) × ((outcomeInNumbers (oneProcessor words h)) .length ≡ 0)
 unfolding outcomeInNumbers
-outcome-zeros words h one-holds = refused-zeros words h (λ zero. one-holds (keeps words h .number ∙ zero))
+outcome-zeros words h one-holds = refused-zeros _ _ h (λ zero. one-holds (keeps _ _ h .number ∙ zero))
 
 -- Two results that the contracts of the two functions allow are equal.
 pub row-numbers-unique : (words : List ℕ) (m method : ℕ) (R : List ℕ) (row : ℕ) (first second : RowNumbers)

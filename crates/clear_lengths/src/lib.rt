@@ -7,6 +7,7 @@ use verdict::Look;
 ghost use mathlib.Core.Path.{_≡_};
 ghost use Prim.Native.Nat.{_≤_, _+_, _<_};
 ghost use Rattle.rows.specs.Words.{sheetOf};
+ghost use Rattle.rows.specs.Inner.{Laid};
 ghost use Rattle.verdict.specs.Inner.{RowGiven, jobsWithin, lookOf, Given, GroupGiven, NotesGiven, Clear, groupDemand, Narrower};
 ghost use Rattle.laws.specs.Sum.{total};
 ghost use Rattle.model.specs.Demand.{demandOf, demand};
@@ -26,7 +27,7 @@ pub fn jobs_within(length: u32, deadline: u32, period: u32) -> u32
 
 // Looks at the row at a place in the length. Before its first deadline it has no job due.
 pub fn look_at(words: &[u32], row: u32, length: u32) -> Look
-    requires { ⌜ RowGiven (now words) row length ⌝ }
+    requires { ⌜ RowGiven (sheetOf (now words)) row length × Laid (now words) ⌝ }
     ensures { λ r. ⌜ r ≡ lookOf (sheetOf (now (words .entry))) length row ⌝ }
 {
     let at = 3 * (row as usize);
@@ -69,7 +70,7 @@ pub fn later(one: u32, other: u32) -> u32 {
 
 // Looks at so many rows from a place on, in a length.
 pub fn look_at_group(words: &[u32], first: u32, size: u32, length: u32) -> Note
-    requires { ⌜ GroupGiven (now words) first size length ⌝ }
+    requires { ⌜ GroupGiven (sheetOf (now words)) first size length × Laid (now words) ⌝ }
     ensures { λ r. ⌜ r .demand ≡ total (λ j. demandOf (sheetOf (now (words .entry))) length (first + j)) size ⌝ }
 {
     let mut demand = 0;
@@ -96,9 +97,9 @@ pub fn group_demand(
     since: &mut [u32],
     most: &mut [u32],
 ) -> u32
-    requires { ⌜ NotesGiven (now words) count length (now since) (now most) × (group < 16) ⌝ }
+    requires { ⌜ NotesGiven (sheetOf (now words)) count length (now since) (now most) × (group < 16) × Laid (now words) ⌝ }
     ensures { λ r. ⌜ (groupDemand (sheetOf (now (words .entry))) length group ≤ r) × (r ≤ 67_108_864) ⌝ }
-    ensures { λ r. ⌜ NotesGiven (now (words .entry)) count length (now (since .exit)) (now (most .exit)) ⌝ }
+    ensures { λ r. ⌜ NotesGiven (sheetOf (now (words .entry))) count length (now (since .exit)) (now (most .exit)) ⌝ }
 {
     let at = group as usize;
     if since[at] <= length {
@@ -119,9 +120,9 @@ pub fn noted_demand(
     since: &mut [u32],
     most: &mut [u32],
 ) -> u32
-    requires { ⌜ NotesGiven (now words) count length (now since) (now most) ⌝ }
+    requires { ⌜ NotesGiven (sheetOf (now words)) count length (now since) (now most) × Laid (now words) ⌝ }
     ensures { λ r. ⌜ demand (sheetOf (now (words .entry))) length ≤ r ⌝ }
-    ensures { λ r. ⌜ NotesGiven (now (words .entry)) count length (now (since .exit)) (now (most .exit)) ⌝ }
+    ensures { λ r. ⌜ NotesGiven (sheetOf (now (words .entry))) count length (now (since .exit)) (now (most .exit)) ⌝ }
 {
     let mut sum = 0;
     let mut group = 0;
@@ -141,7 +142,7 @@ pub fn clear_down_to(
     since: &mut [u32],
     most: &mut [u32],
 ) -> u32
-    requires { ⌜ NotesGiven (now words) count high (now since) (now most) ⌝ }
+    requires { ⌜ NotesGiven (sheetOf (now words)) count high (now since) (now most) × Laid (now words) ⌝ }
     ensures { λ r. ⌜ (r ≤ high) × Clear (sheetOf (now (words .entry))) r high ⌝ }
 {
     let mut length = high;
@@ -157,7 +158,7 @@ pub fn clear_down_to(
 
 // Narrows a gap by backward steps from a length within it. Nothing is noted at the start, so every group is looked at in that length.
 pub fn narrowed(words: &[u32], count: u32, clear: u32, stopped: u32, middle: u32) -> Gap
-    requires { ⌜ Given (now words) count middle × (clear < middle) × (middle < stopped) ⌝ }
+    requires { ⌜ Given (sheetOf (now words)) count middle × (clear < middle) × (middle < stopped) × Laid (now words) ⌝ }
     ensures { λ r. ⌜ Narrower (sheetOf (now (words .entry))) clear stopped (r .clear) (r .stopped) ⌝ }
 {
     let mut since = [16_777_217u32; 16];
@@ -178,7 +179,7 @@ pub fn narrowed(words: &[u32], count: u32, clear: u32, stopped: u32, middle: u32
 
 // A length up to which all are clear: the whole range is tried first, then half of each gap that is left.
 pub fn clear_up_to(words: &[u32], count: u32, last: u32) -> u32
-    requires { ⌜ Given (now words) count last ⌝ }
+    requires { ⌜ Given (sheetOf (now words)) count last × Laid (now words) ⌝ }
     ensures { λ r. ⌜ (r ≤ last) × Clear (sheetOf (now (words .entry))) 0 r ⌝ }
 {
     let mut clear = 0;

@@ -4,12 +4,12 @@ ghost use mathlib.Core.Path.{_≡_};
 ghost use Prim.Native.Nat.{_≤_};
 ghost use Rattle.model.specs.Demand.{busyOf, busy, busyLength};
 ghost use Rattle.rows.specs.Words.{sheetOf, foundOf};
+ghost use Rattle.rows.specs.Inner.{Laid};
 ghost use Rattle.verdict.specs.Inner.{Given, RowGiven};
 
 // A row's part of the busy sum: ceil(length / T) × C. From length 1 on the ceiling is one more than floor((length − 1) / T).
 pub(crate) fn busy_part(words: &[u32], row: u32, length: u32) -> u32
-    requires { ⌜ RowGiven (now words) row length ⌝ }
-    requires { ⌜ 1 ≤ length ⌝ }
+    requires { ⌜ RowGiven (sheetOf (now words)) row length × (1 ≤ length) × Laid (now words) ⌝ }
     ensures { λ r. ⌜ r ≡ busyOf (sheetOf (now (words .entry))) length row ⌝ }
 {
     let at = 3 * (row as usize);
@@ -19,8 +19,7 @@ pub(crate) fn busy_part(words: &[u32], row: u32, length: u32) -> u32
 
 // The sum of ceil(length / T) × C.
 pub(crate) fn busy_sum(words: &[u32], count: u32, length: u32) -> u32
-    requires { ⌜ Given (now words) count length ⌝ }
-    requires { ⌜ 1 ≤ length ⌝ }
+    requires { ⌜ Given (sheetOf (now words)) count length × (1 ≤ length) × Laid (now words) ⌝ }
     ensures { λ r. ⌜ r ≡ busy (sheetOf (now (words .entry))) length ⌝ }
 {
     let mut sum = 0;
@@ -34,7 +33,7 @@ pub(crate) fn busy_sum(words: &[u32], count: u32, length: u32) -> u32
 
 // The busy length, if it is within the horizon.
 pub(crate) fn busy_length(words: &[u32], count: u32, horizon: u32) -> Found
-    requires { ⌜ Given (now words) count horizon ⌝ }
+    requires { ⌜ Given (sheetOf (now words)) count horizon × Laid (now words) ⌝ }
     ensures { λ r. ⌜ r ≡ foundOf (busyLength (sheetOf (now (words .entry))) horizon) ⌝ }
 {
     let mut length = 1;

@@ -7,6 +7,7 @@ use verdict::Outcome;
 ghost use mathlib.Core.Path.{_≡_};
 ghost use Rattle.model.specs.Demand.{verdict};
 ghost use Rattle.rows.specs.Words.{sheetOf};
+ghost use Rattle.rows.specs.Inner.{Laid};
 ghost use Rattle.verdict.specs.OneProcessor.{outcomeOf};
 ghost use Rattle.verdict.specs.Inner.{BusyGiven, furthest, withoutMiss};
 
@@ -33,7 +34,7 @@ pub(crate) fn without_miss(busy: Found) -> Outcome
 // What the horizon shows, given the busy length within it. The lengths up to the first that backward steps leave open are clear; behind
 // it each length looked at is a deadline of some row, and none lies behind the busy length.
 pub(crate) fn outcome_within(words: &[u32], count: u32, horizon: u32, busy: Found) -> Outcome
-    requires { ⌜ BusyGiven (now words) count horizon busy ⌝ }
+    requires { ⌜ BusyGiven (sheetOf (now words)) count horizon busy × Laid (now words) ⌝ }
     ensures { λ r. ⌜ r ≡ outcomeOf (verdict (sheetOf (now (words .entry))) horizon) ⌝ }
 {
     let last = last_length(busy, horizon);

@@ -8,13 +8,12 @@ use turns::sweep_rows;
 ghost use mathlib.Core.Path.{_≡_};
 ghost use Prim.Native.Nat.{_+_, _≤_, _<_};
 ghost use lib.ListN.{length};
-ghost use Rattle.model.specs.Refine.{deadlines, round, rounds, atOnce, marks};
-ghost use Rattle.model.specs.Inner.{Held};
-ghost use Rattle.rows.specs.Words.{rowCount, sheetOf};
-ghost use Rattle.rows.specs.Checks.{SoundRows};
-ghost use Rattle.refinement.specs.Refinement.{askOf};
-ghost use Rattle.refinement.specs.Question.{Ready};
-ghost use Rattle.refinement.specs.Inner.{AfterPass, Copied};
+ghost use Rattle.model.specs.Refine.{deadlines, round, rounds, atOnce};
+ghost use Rattle.model.specs.Sheet.{Allowed};
+ghost use Rattle.rows.specs.Words.{sheetOf};
+ghost use Rattle.rows.specs.Inner.{Laid};
+ghost use Rattle.refinement.specs.Refinement.{askOf, finalBounds, finalMarks};
+ghost use Rattle.refinement.specs.Inner.{Running, AfterPass, Copied};
 
 // Copies new bounds over the old ones, and tells whether any differs.
 pub fn copy_back(next: &[u32], bounds: &mut [u32], count: u32) -> bool
@@ -36,7 +35,7 @@ pub fn copy_back(next: &[u32], bounds: &mut [u32], count: u32) -> bool
 
 // The deadlines, at which all bounds begin.
 pub fn fill_deadlines(words: &[u32], bounds: &mut [u32], count: u32)
-    requires { ⌜ (count ≡ rowCount (now words)) × (length (now bounds) ≡ count) ⌝ }
+    requires { ⌜ (count ≡ (sheetOf (now words)) .rows) × (length (now bounds) ≡ count) ⌝ }
     ensures { λ r. ⌜ now (bounds .exit) ≡ deadlines (sheetOf (now (words .entry))) ⌝ }
 {
     let mut row = 0;
@@ -55,8 +54,8 @@ pub fn round_rows(
     method: u32,
     count: u32,
 ) -> Tally
-    requires { ⌜ Ready (now words) (now bounds) × (count ≡ rowCount (now words)) × (1 ≤ processors) × Held (sheetOf (now words)) (askOf (now words) processors method) (now bounds) × (length (now next) ≡ count) ⌝ }
-    ensures told { λ r. ⌜ AfterPass (sheetOf (now (words .entry))) (askOf (now (words .entry)) processors method) (round (sheetOf (now (words .entry))) (askOf (now (words .entry)) processors method)) (now (bounds .entry)) (now (bounds .exit)) (r .moved) (r .seen) ⌝ }
+    requires { ⌜ Running (sheetOf (now words)) (now bounds) count processors method × (length (now next) ≡ count) × Laid (now words) ⌝ }
+    ensures told { λ r. ⌜ AfterPass (sheetOf (now (words .entry))) (askOf (sheetOf (now (words .entry))) processors method) (round (sheetOf (now (words .entry))) (askOf (sheetOf (now (words .entry))) processors method)) (now (bounds .entry)) (now (bounds .exit)) (r .moved) (r .seen) ⌝ }
     ensures kept { λ r. ⌜ length (now (next .exit)) ≡ count ⌝ }
 {
     let seen = fill_turns(words, bounds, processors, method, count, next);
@@ -76,9 +75,9 @@ pub fn settle_rounds(
     method: u32,
     count: u32,
 ) -> u64
-    requires { ⌜ Ready (now words) (now bounds) × (count ≡ rowCount (now words)) × (1 ≤ processors) × Held (sheetOf (now words)) (askOf (now words) processors method) (now bounds) × (length (now next) ≡ count) ⌝ }
-    ensures seen { λ r. ⌜ r ≡ marks (sheetOf (now (words .entry))) (askOf (now (words .entry)) processors method) (rounds (sheetOf (now (words .entry))) (askOf (now (words .entry)) processors method)) ⌝ }
-    ensures settled { λ r. ⌜ now (bounds .exit) ≡ rounds (sheetOf (now (words .entry))) (askOf (now (words .entry)) processors method) ⌝ }
+    requires { ⌜ Running (sheetOf (now words)) (now bounds) count processors method × (length (now next) ≡ count) × Laid (now words) ⌝ }
+    ensures seen { λ r. ⌜ r ≡ finalMarks rounds (sheetOf (now (words .entry))) processors method ⌝ }
+    ensures settled { λ r. ⌜ now (bounds .exit) ≡ finalBounds rounds (sheetOf (now (words .entry))) processors method ⌝ }
 {
     loop {
         let outcome = round_rows(words, bounds, next, processors, method, count);
@@ -102,9 +101,9 @@ pub fn settle_at_once(
     method: u32,
     count: u32,
 ) -> u64
-    requires { ⌜ Ready (now words) (now bounds) × (count ≡ rowCount (now words)) × (1 ≤ processors) × Held (sheetOf (now words)) (askOf (now words) processors method) (now bounds) × (length (now before) ≡ count) × (length (now drops) ≡ count) × (processors ≤ 64) × (length (now others) ≡ 320) × (length (now room) ≡ count) ⌝ }
-    ensures seen { λ r. ⌜ r ≡ marks (sheetOf (now (words .entry))) (askOf (now (words .entry)) processors method) (atOnce (sheetOf (now (words .entry))) (askOf (now (words .entry)) processors method)) ⌝ }
-    ensures settled { λ r. ⌜ now (bounds .exit) ≡ atOnce (sheetOf (now (words .entry))) (askOf (now (words .entry)) processors method) ⌝ }
+    requires { ⌜ Running (sheetOf (now words)) (now bounds) count processors method × (length (now before) ≡ count) × (length (now drops) ≡ count) × (length (now others) ≡ 320) × (length (now room) ≡ count) × Laid (now words) ⌝ }
+    ensures seen { λ r. ⌜ r ≡ finalMarks atOnce (sheetOf (now (words .entry))) processors method ⌝ }
+    ensures settled { λ r. ⌜ now (bounds .exit) ≡ finalBounds atOnce (sheetOf (now (words .entry))) processors method ⌝ }
 {
     let mut sweeps = 0;
     loop {
@@ -136,9 +135,9 @@ pub fn run_rounds(
     method: u32,
     count: u32,
 ) -> u64
-    requires { ⌜ SoundRows (now words) × (count ≡ rowCount (now words)) × (1 ≤ processors) × (length (now bounds) ≡ count) ⌝ }
-    ensures seen { λ r. ⌜ r ≡ marks (sheetOf (now (words .entry))) (askOf (now (words .entry)) processors method) (rounds (sheetOf (now (words .entry))) (askOf (now (words .entry)) processors method)) ⌝ }
-    ensures settled { λ r. ⌜ now (bounds .exit) ≡ rounds (sheetOf (now (words .entry))) (askOf (now (words .entry)) processors method) ⌝ }
+    requires { ⌜ Allowed (sheetOf (now words)) × (count ≡ (sheetOf (now words)) .rows) × (1 ≤ processors) × (length (now bounds) ≡ count) × (processors ≤ 64) × Laid (now words) ⌝ }
+    ensures seen { λ r. ⌜ r ≡ finalMarks rounds (sheetOf (now (words .entry))) processors method ⌝ }
+    ensures settled { λ r. ⌜ now (bounds .exit) ≡ finalBounds rounds (sheetOf (now (words .entry))) processors method ⌝ }
 {
     fill_deadlines(words, bounds, count);
     let mut next = [0u32; 64];
@@ -154,9 +153,9 @@ pub fn run_at_once(
     method: u32,
     count: u32,
 ) -> u64
-    requires { ⌜ SoundRows (now words) × (count ≡ rowCount (now words)) × (1 ≤ processors) × (length (now bounds) ≡ count) × (processors ≤ 64) ⌝ }
-    ensures seen { λ r. ⌜ r ≡ marks (sheetOf (now (words .entry))) (askOf (now (words .entry)) processors method) (atOnce (sheetOf (now (words .entry))) (askOf (now (words .entry)) processors method)) ⌝ }
-    ensures settled { λ r. ⌜ now (bounds .exit) ≡ atOnce (sheetOf (now (words .entry))) (askOf (now (words .entry)) processors method) ⌝ }
+    requires { ⌜ Allowed (sheetOf (now words)) × (count ≡ (sheetOf (now words)) .rows) × (1 ≤ processors) × (length (now bounds) ≡ count) × (processors ≤ 64) × Laid (now words) ⌝ }
+    ensures seen { λ r. ⌜ r ≡ finalMarks atOnce (sheetOf (now (words .entry))) processors method ⌝ }
+    ensures settled { λ r. ⌜ now (bounds .exit) ≡ finalBounds atOnce (sheetOf (now (words .entry))) processors method ⌝ }
 {
     fill_deadlines(words, bounds, count);
     let mut before = [0u32; 64];

@@ -1,7 +1,7 @@
 -- What reading and writing return and leave behind, by what the input is: not refused exactly where everything asked for holds, and
 -- refusal 1 exactly where the bytes break the form, at the place where they do.
 use mathlib.Core.Path.{_≡_, refl, sym, _∙_, ap}
-use mathlib.Core.Bool.{Bool, true, false, not}
+use mathlib.Core.Bool.{Bool, true, false}
 use mathlib.Core.List.{List, _++_}
 use mathlib.Core.Option.{Option, none, some}
 use mathlib.Core.Logic.{_↔_}
@@ -14,8 +14,9 @@ use Rattle.laws.proofs.Fill.{front-put}
 use Rattle.laws.proofs.Choice.{number-kept, zero-where-refused}
 use Rattle.model.specs.Sheet.{processorsAllowed}
 use Rattle.rows.specs.declared.Refusal.{Refusal}
-use Rattle.rows.specs.Words.{rowCount, sheetOf, firstOutside}
-use Rattle.rows.specs.Checks.{refused, notRefused, notRows, tooMany, processorsRefusal, roomRefusal, firstOf, rowsRefusal, wordsRefusal}
+use Rattle.rows.specs.Words.{sheetOf}
+use Rattle.rows.specs.Checks.{refused, notRefused, processorsRefusal, roomRefusal, firstOf, firstHeld}
+use Rattle.rows.proofs.Checks.{each-number}
 use Rattle.grammar.specs.declared.Read.{Read}
 use Rattle.grammar.specs.declared.Written.{Written}
 use Rattle.grammar.specs.Grammar.{sheetLength, processorsWritten, rowsWritten, firstWrong}
@@ -24,12 +25,6 @@ use Rattle.grammar.specs.Meaning.{Breaks, Readable, Writable}
 use Rattle.grammar.specs.Sheets.{betweenRefusal, formedRefusal, formRefusal, readRefusal, readRefused, readAnswer, readSheet, wordsAfter, writeRefusal, writeAnswer, writeSheet, bytesAfter}
 use Rattle.grammar.proofs.Meaning.{form-means, form-fixed}
 use Rattle.grammar.proofs.Refusals.{passed, passes, read-refused, read-accepted, write-accepted, form-wrong, form-right}
-
--- A row outside the sizes allowed is no refusal 1.
-rows-not-one : (row : Option ℕ) → (rowsRefusal row) .number ≡ 1 → ⊥
-unfolding rowsRefusal
-rows-not-one none one = omega arith
-rows-not-one (some row) one = omega arith
 
 pub read-number : (bytes : List ℕ) (room : ℕ) → (readSheet bytes room) .refusal ≡ (readRefusal bytes room) .number
 unfolding readSheet readAnswer
@@ -41,7 +36,7 @@ written-number refusal size = number-kept {A = Written} (λ r. r .refusal) (refu
 
 pub write-number : (words : List ℕ) (processors room : ℕ) → (writeSheet words processors room) .refusal ≡ (writeRefusal words processors room) .number
 unfolding writeSheet
-write-number words processors room = written-number (writeRefusal words processors room) (sheetLength (rowCount words))
+write-number words processors room = written-number (writeRefusal words processors room) (sheetLength ((sheetOf words) .rows))
 
 -- Refused, every number but the refusal's own number and place is 0.
 pub read-zeros : (bytes : List ℕ) (room : ℕ) → ((readSheet bytes room) .refusal ≡ 0 → ⊥)
@@ -68,14 +63,14 @@ read-found bytes room none-holds =
     let both = formed-only (formedRefusal bytes room) (firstWrong bytes) (sym (read-number bytes room) ∙ none-holds) in
     record {
       formed = rw (both .0) at (form-means bytes);
-      passed = passed (wordsWritten bytes) (processorsWritten bytes) room (3 * rowsWritten bytes) (both .1);
+      passed = passed _ _ (processorsWritten bytes) room (3 * rowsWritten bytes) (both .1);
     }
 
 readable : (bytes : List ℕ) (room : ℕ) → Readable bytes room → readRefusal bytes room ≡ notRefused
 unfolding formedRefusal
 readable bytes room facts =
     form-right bytes room (form-fixed bytes none (facts .formed))
-    ∙ passes (wordsWritten bytes) (processorsWritten bytes) room (3 * rowsWritten bytes) (facts .passed)
+    ∙ passes _ _ (processorsWritten bytes) room (3 * rowsWritten bytes) (facts .passed)
 
 -- So a reading is not refused exactly where all of it holds.
 pub read-not-refused : (bytes : List ℕ) (room : ℕ) → ((readSheet bytes room) .refusal ≡ 0) ↔ Readable bytes room
@@ -99,22 +94,22 @@ read-leaves bytes words facts =
 pub write-found : (words : List ℕ) (processors room : ℕ) → (writeSheet words processors room) .refusal ≡ 0 → Writable words processors room
 unfolding writeRefusal
 write-found words processors room none-holds =
-    passed words processors room (sheetLength (rowCount words)) (sym (write-number words processors room) ∙ none-holds)
+    passed _ _ processors room (sheetLength ((sheetOf words) .rows)) (sym (write-number words processors room) ∙ none-holds)
 
 writable : (words : List ℕ) (processors room : ℕ) → Writable words processors room → writeRefusal words processors room ≡ notRefused
 unfolding writeRefusal
-writable words processors room facts = passes words processors room (sheetLength (rowCount words)) facts
+writable words processors room facts = passes _ _ processors room (sheetLength ((sheetOf words) .rows)) facts
 
 pub write-not-refused : (words : List ℕ) (processors room : ℕ) → ((writeSheet words processors room) .refusal ≡ 0) ↔ Writable words processors room
 write-not-refused words processors room =
     (write-found words processors room, λ facts. write-number words processors room ∙ ap (λ (f : Refusal). f .number) (writable words processors room facts))
 
 pub write-answers : (words : List ℕ) (processors room : ℕ) → Writable words processors room
-    → writeSheet words processors room ≡ record { refusal = 0; place = 0; length = sheetLength (rowCount words) }
+    → writeSheet words processors room ≡ record { refusal = 0; place = 0; length = sheetLength ((sheetOf words) .rows) }
 unfolding writeSheet
 write-answers words processors room facts =
     sym
-    (write-accepted (writeRefusal words processors room) (sheetLength (rowCount words))
+    (write-accepted (writeRefusal words processors room) (sheetLength ((sheetOf words) .rows))
     (ap (λ (f : Refusal). f .number) (writable words processors room facts)))
 
 pub write-leaves : (words : List ℕ) (processors : ℕ) (out : List ℕ) → Writable words processors (length out)
@@ -128,24 +123,14 @@ write-leaves words processors out facts =
 
 -- No check after the form has number 1.
 between-not-one : (processors room need : ℕ) → betweenRefusal processors room need ≡ 1 → ⊥
-unfolding betweenRefusal firstOf processorsRefusal roomRefusal
+unfolding betweenRefusal firstHeld firstOf processorsRefusal roomRefusal
 between-not-one processors room need = split (processorsAllowed processors) (ltb room need)
   where
-    split : (allowed short : Bool) → _≡_ {A = ℕ} (pick (eqb (pick allowed 0 4) 0) (pick short 7 0) (pick allowed 0 4)) 1 → ⊥
+    split : (allowed short : Bool)
+        → _≡_ {A = ℕ} (pick (eqb (pick allowed 0 4) 0) (pick (eqb (pick short 7 0) 0) 0 (pick short 7 0)) (pick allowed 0 4)) 1 → ⊥
     split true true one = omega arith
     split true false one = omega arith
     split false short one = omega arith
-
-later-not-one : (words : List ℕ) (between : ℕ) → (between ≡ 1 → ⊥) → (wordsRefusal words between) .number ≡ 1 → ⊥
-unfolding wordsRefusal
-later-not-one words between other = split (notRows words) (tooMany words) (not (eqb between 0)) (firstOutside (sheetOf words))
-  where
-    split : (shapeless many holds : Bool) (row : Option ℕ)
-        → (pick shapeless (refused 2 0) (pick many (refused 3 0) (pick holds (refused between 0) (rowsRefusal row)))) .number ≡ 1 → ⊥
-    split true many holds row one = omega arith
-    split false true holds row one = omega arith
-    split false false true row one = other one
-    split false false false row one = rows-not-one row one
 
 -- Wherever the bytes break the form, refusal 1 is given, and the place is where they do.
 pub broken-refused : (bytes : List ℕ) (room place : ℕ) → Breaks bytes place → readSheet bytes room ≡ readRefused 1 place
@@ -162,8 +147,8 @@ read-broken bytes room one = split (firstWrong bytes) refl
     split : (r : Option ℕ) → firstWrong bytes ≡ r → Breaks bytes ((readSheet bytes room) .place)
     split none right =
         absurd
-        (later-not-one (wordsWritten bytes) (betweenRefusal (processorsWritten bytes) room (3 * rowsWritten bytes))
-        (between-not-one (processorsWritten bytes) room (3 * rowsWritten bytes))
+        (each-number (λ n. n ≡ 1 → ⊥) _ _ _ (λ zero. omega arith) (λ two. omega arith) (λ three. omega arith)
+        (between-not-one (processorsWritten bytes) room (3 * rowsWritten bytes)) (λ eight. omega arith)
         (rw (form-right bytes room right) at (sym (read-number bytes room) ∙ one)))
     split (some place) wrong =
         let breaks : Breaks bytes place = rw wrong at (form-means bytes) in

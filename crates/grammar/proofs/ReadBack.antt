@@ -13,7 +13,7 @@ use Rattle.digits.specs.Digits.{isDigit, digitByte, number, digits}
 use Rattle.digits.proofs.Digit.{upper-self}
 use Rattle.digits.proofs.Number.{digits-of-number}
 use Rattle.rows.specs.Words.{sheetOf}
-use Rattle.rows.proofs.Words.{sheet-rows, cost-word, deadline-word, period-word}
+use Rattle.rows.proofs.Words.{cost-word, deadline-word, period-word}
 use Rattle.grammar.specs.Grammar.{head, line, sheetLength, lineAllows, processorsWritten, rowsWritten}
 use Rattle.grammar.specs.Lines.{firstLine, rowLine, lineOf, sheetBytes, wordOffset, wordWritten, wordsWritten}
 use Rattle.grammar.specs.Meaning.{Formed}
@@ -145,7 +145,7 @@ module _ (bytes : List ℕ) (formed : Formed bytes) where
   pub sheet-back : sheetBytes (sheetOf (wordsWritten bytes)) (processorsWritten bytes) ≡ bytes
   unfolding sheetBytes sheetLength
   sheet-back =
-      let count : (sheetOf (wordsWritten bytes)) .rows ≡ rowsWritten bytes = sheet-rows (wordsWritten bytes) ∙ words-rows bytes in
+      let count : (sheetOf (wordsWritten bytes)) .rows ≡ rowsWritten bytes = words-rows bytes in
       let first : firstLine (processorsWritten bytes) (rowsWritten bytes) ≡ listed (λ j. getD bytes j 0) head =
       first-line-back bytes first-line-stands ∙ listed-same _ _ head (λ j h. ap (λ (at : ℕ). getD bytes at 0) (zero-add j)) in
       ap (λ (n : ℕ). firstLine (processorsWritten bytes) n ++ joined (lineOf (sheetOf (wordsWritten bytes))) n) count

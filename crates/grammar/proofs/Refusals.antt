@@ -1,46 +1,49 @@
 -- The checks of reading and writing: what a refusal, and none, says of the answer and of the lent space.
 use mathlib.Core.Path.{_≡_, sym, _∙_}
-use mathlib.Core.List.{List}
+use mathlib.Core.Bool.{Bool}
+use mathlib.Core.List.{List, [], _∷_}
 use mathlib.Core.Option.{none, some}
 use Prim.Native.Nat.{ℕ, _*_, _<_}
 use native.Mathlib.Omega.{arith}
-use borrow.Author.Tests.{lt-ltb}
 use lib.ListN.{length}
-use Rattle.laws.proofs.Choice.{pick-yes, pick-no, not-refused, is-refused}
+use Rattle.laws.proofs.Choice.{not-refused, is-refused}
 use Rattle.laws.proofs.Fill.{listed-length, front-left}
 use Rattle.laws.specs.Fill.{atFront}
 use Rattle.rows.specs.declared.Refusal.{Refusal}
-use Rattle.rows.specs.Words.{rowCount}
-use Rattle.rows.specs.Checks.{refused, notRefused, tooMany, processorsRefusal, roomRefusal, firstOf, wordsRefusal}
-use Rattle.rows.proofs.Checks.{whole-rows, accepted, sound-passes, first-of-zero, first-of-none, processors-allowed, allowed-processors, room-enough, enough-room}
+use Rattle.model.specs.Sheet.{Sheet, triples}
+use Rattle.rows.specs.Words.{sheetOf}
+use Rattle.rows.specs.Checks.{refused, notRefused, processorsRefusal, roomRefusal, laidRefusal, wordsRefusal}
+use Rattle.rows.proofs.Checks.{laid-words, accepted, accepted-passes, none-held, held-none, count-refused, processors-allowed, allowed-processors, room-enough, enough-room}
 use Rattle.grammar.specs.declared.Read.{Read}
 use Rattle.grammar.specs.Grammar.{processorsWritten, rowsWritten, firstWrong}
 use Rattle.grammar.specs.Lines.{wordWritten, wordsWritten}
-use Rattle.grammar.specs.Meaning.{RowsFit}
+use Rattle.grammar.specs.Meaning.{RowsFit, WordsFit}
 use Rattle.grammar.specs.Sheets.{betweenRefusal, formedRefusal, formRefusal, readRefusal, readRefused, readAnswer, writeAnswer}
 
 -- With number 0 each of them passed; and where each passes there is no refusal.
-pub passed : (words : List ℕ) (processors room need : ℕ) → (wordsRefusal words (betweenRefusal processors room need)) .number ≡ 0
-    → RowsFit words processors room need
-unfolding betweenRefusal
-passed words processors room need none-holds =
-    let facts = accepted words (firstOf (processorsRefusal processors) (roomRefusal room need)) none-holds in
-    let both = first-of-zero (processorsRefusal processors) (roomRefusal room need) (facts .nothing-between) in
-    record {
-      sound = facts .rows;
-      allowed = processors-allowed processors (both .0);
-      enough = room-enough room need (both .1);
-    }
+module _ (broken : Bool) (s : Sheet) (processors room need : ℕ) where
+  pub passed : (laidRefusal broken s (betweenRefusal processors room need)) .number ≡ 0 → RowsFit broken s processors room need
+  unfolding betweenRefusal
+  passed none-holds =
+      let facts = accepted broken s _ none-holds in
+      let own = none-held (processorsRefusal processors ∷ roomRefusal room need ∷ []) (facts .none-held) in
+      record {
+        laid = facts .laid;
+        sizes = facts .sizes;
+        allowed = processors-allowed processors (own .0);
+        enough = room-enough room need (own .1 .0);
+      }
 
-pub passes : (words : List ℕ) (processors room need : ℕ) → RowsFit words processors room need
-    → wordsRefusal words (betweenRefusal processors room need) ≡ notRefused
-unfolding betweenRefusal
-passes words processors room need facts =
-    sound-passes words (firstOf (processorsRefusal processors) (roomRefusal room need))
-    (record {
-      rows = facts .sound;
-      nothing-between = first-of-none _ _ (allowed-processors processors (facts .allowed)) (enough-room room need (facts .enough));
-    })
+  pub passes : RowsFit broken s processors room need → laidRefusal broken s (betweenRefusal processors room need) ≡ notRefused
+  unfolding betweenRefusal
+  passes facts =
+      accepted-passes broken s _
+      (record {
+        laid = facts .laid;
+        sizes = facts .sizes;
+        none-held = held-none (processorsRefusal processors ∷ roomRefusal room need ∷ [])
+            (allowed-processors processors (facts .allowed), (enough-room room need (facts .enough), tt));
+      })
 
 -- What reading returns, refused or not.
 pub read-refused : (refusal : Refusal) (bytes : List ℕ) → (refusal .number ≡ 0 → ⊥) → readRefused (refusal .number) (refusal .place) ≡ readAnswer refusal bytes
@@ -74,8 +77,8 @@ pub words-length : (bytes : List ℕ) → length (wordsWritten bytes) ≡ 3 * ro
 unfolding wordsWritten
 words-length bytes = listed-length (wordWritten bytes) (3 * rowsWritten bytes)
 
-pub words-rows : (bytes : List ℕ) → rowCount (wordsWritten bytes) ≡ rowsWritten bytes
-unfolding rowCount
+pub words-rows : (bytes : List ℕ) → (sheetOf (wordsWritten bytes)) .rows ≡ rowsWritten bytes
+unfolding sheetOf triples
 words-rows bytes = rw (words-length bytes) (omega arith)
 
 -- A wrong offset is refusal 1 whatever else holds; without one the other checks decide.
@@ -89,10 +92,9 @@ form-right bytes room right = rw right
 
 -- More than 64 rows are refused whatever comes after.
 pub many-refused : (bytes : List ℕ) (room : ℕ) → 64 < rowsWritten bytes → formedRefusal bytes room ≡ refused 3 0
-unfolding formedRefusal wordsRefusal tooMany
+unfolding formedRefusal
 many-refused bytes room many =
-    pick-no _ _ _ (whole-rows (wordsWritten bytes) (rw words-rows (words-length bytes)) (rw words-rows (omega arith)))
-    ∙ pick-yes _ _ _ (lt-ltb 64 (rowCount (wordsWritten bytes)) (rw words-rows many))
+    count-refused _ (sheetOf (wordsWritten bytes)) _ (laid-words _ (record { whole = rw words-rows (words-length bytes) })) (rw words-rows many)
 
 -- The checks on the words that were read are those on the sheet.
 pub judged-words : (bytes written : List ℕ) (processors room between : ℕ) → written ≡ wordsWritten bytes
@@ -104,6 +106,6 @@ judged-words bytes written processors room between is-written is-line is-between
 
 -- A sheet that is not refused passed its checks.
 pub formed-passed : (bytes : List ℕ) (room : ℕ) → (formedRefusal bytes room) .number ≡ 0
-    → RowsFit (wordsWritten bytes) (processorsWritten bytes) room (3 * rowsWritten bytes)
+    → WordsFit (wordsWritten bytes) (processorsWritten bytes) room (3 * rowsWritten bytes)
 unfolding formedRefusal
-formed-passed bytes room none-holds = passed (wordsWritten bytes) (processorsWritten bytes) room (3 * rowsWritten bytes) none-holds
+formed-passed bytes room none-holds = passed _ _ (processorsWritten bytes) room (3 * rowsWritten bytes) none-holds

@@ -6,8 +6,8 @@ use Prim.Native.Nat.{ℕ, _*_, _≤_}
 use native.Mathlib.Omega.{arith}
 use lib.ListN.{length, take, drop}
 use lib.Seq.{take-at}
-use Rattle.rows.specs.Words.{rowCount, sheetOf}
-use Rattle.rows.proofs.Words.{sheet-rows}
+use Rattle.rows.specs.Words.{sheetOf}
+use Rattle.rows.proofs.Checks.{words-laid}
 use Rattle.grammar.specs.Grammar.{sheetLength, processorsWritten, rowsWritten}
 use Rattle.grammar.specs.Lines.{sheetBytes, wordsWritten}
 use Rattle.grammar.specs.Sheets.{readSheet, wordsAfter, writeSheet, bytesAfter}
@@ -26,9 +26,9 @@ pub read-then-written : (bytes words out : List ℕ) → (readSheet bytes (lengt
     × (bytesAfter rows (r .processors) out ≡ bytes ++ drop (length bytes) out)
 read-then-written bytes words out none-holds room =
     let facts : Readable bytes (length words) = read-found bytes (length words) none-holds in
-    let size : sheetLength (rowCount (wordsWritten bytes)) ≡ length bytes = ap sheetLength (words-rows bytes) ∙ sym (facts .formed .whole) in
+    let size : sheetLength ((sheetOf (wordsWritten bytes)) .rows) ≡ length bytes = ap sheetLength (words-rows bytes) ∙ sym (facts .formed .whole) in
     let fits : Writable (wordsWritten bytes) (processorsWritten bytes) (length out) =
-    record { sound = facts .passed .sound; allowed = facts .passed .allowed; enough = rw size room } in
+    record { laid = facts .passed .laid; sizes = facts .passed .sizes; allowed = facts .passed .allowed; enough = rw size room } in
     rw (
       read-answers bytes (length words) facts,
       read-leaves bytes words facts,
@@ -43,22 +43,23 @@ read-then-written bytes words out none-holds room =
 pub written-then-read : (words : List ℕ) (processors : ℕ) (out space : List ℕ) → (writeSheet words processors (length out)) .refusal ≡ 0
     → length words ≤ length space
     → let bytes = take ((writeSheet words processors (length out)) .length) (bytesAfter words processors out) in
-    (readSheet bytes (length space) ≡ record { refusal = 0; place = 0; processors = processors; rows = rowCount words })
+    (readSheet bytes (length space) ≡ record { refusal = 0; place = 0; processors = processors; rows = (sheetOf words) .rows })
     × (wordsAfter bytes space ≡ words ++ drop (length words) space)
 written-then-read words processors out space none-holds room =
     let facts : Writable words processors (length out) = write-found words processors (length out) none-holds in
     let sheet = sheetBytes (sheetOf words) processors in
-    let size : length sheet ≡ sheetLength (rowCount words) = sheet-bytes-length (sheetOf words) processors ∙ ap sheetLength (sheet-rows words) in
-    let line-one : processorsWritten sheet ≡ processors = processors-same words processors (facts .sound) (facts .allowed) in
-    let count : rowsWritten sheet ≡ rowCount words = rows-same words processors (facts .sound) in
-    let same : wordsWritten sheet ≡ words = words-same words processors (facts .sound) in
-    let whole : length words ≡ 3 * rowCount words = facts .sound .whole in
+    let size : length sheet ≡ sheetLength ((sheetOf words) .rows) = sheet-bytes-length (sheetOf words) processors in
+    let line-one : processorsWritten sheet ≡ processors = processors-same words processors (facts .laid) (facts .sizes) (facts .allowed) in
+    let count : rowsWritten sheet ≡ (sheetOf words) .rows = rows-same words processors (facts .laid) (facts .sizes) in
+    let same : wordsWritten sheet ≡ words = words-same words processors (facts .laid) (facts .sizes) in
+    let whole : length words ≡ 3 * (sheetOf words) .rows = words-laid words (facts .laid) .whole in
     let fits : Readable sheet (length space) =
     record {
-      formed = sound-formed words processors (facts .sound);
+      formed = sound-formed words processors (facts .laid) (facts .sizes);
       passed =
           record {
-            sound = rw same (facts .sound);
+            laid = rw same (facts .laid);
+            sizes = rw same (facts .sizes);
             allowed = rw line-one (facts .allowed);
             enough = rw count (omega arith);
           };
@@ -66,7 +67,7 @@ written-then-read words processors out space none-holds room =
     rw (
       write-answers words processors (length out) facts,
       write-leaves words processors out facts,
-      take-at sheet (drop (length sheet) out) (sheetLength (rowCount words)) size,
+      take-at sheet (drop (length sheet) out) (sheetLength ((sheetOf words) .rows)) size,
     ) (
       read-answers sheet (length space) fits
           ∙ ap₂ (λ (m n : ℕ). record { refusal = 0; place = 0; processors = m; rows = n }) line-one count,

@@ -1,7 +1,7 @@
 -- What is written of rows has the form, and its numbers are those rows: each byte that is written may stand where it stands, and digits
 -- read back are the value that they were written for.
 use mathlib.Core.Path.{_≡_, refl, sym, _∙_, ap}
-use mathlib.Core.Bool.{true}
+use mathlib.Core.Bool.{true, false}
 use mathlib.Core.List.{List, [], _∷_, _++_, append-assoc}
 use mathlib.Core.Logic.{⊎-elim}
 use Prim.Native.Nat.{ℕ, _+_, _*_, _-_, _/_, _%_, _^_, _≤_, _<_}
@@ -13,15 +13,15 @@ use Rattle.laws.specs.Fill.{listed, joined}
 use Rattle.laws.proofs.Order.{below-or-from}
 use Rattle.laws.proofs.Fill.{listed-same, listed-back, joined-at}
 use Rattle.laws.proofs.Cuts.{getD-between, along, along-each}
-use Rattle.model.specs.Sheet.{Sheet, processorsAllowed}
-use Rattle.model.proofs.Sheet.{allowed-processors}
+use Rattle.model.specs.Sheet.{Sheet, Allowed, processorsAllowed}
+use Rattle.model.proofs.Sheet.{row-sized, few-rows, allowed-processors}
 use Rattle.digits.specs.Digits.{digitByte, number, digits}
 use Rattle.digits.proofs.Digit.{byte-is-digit}
 use Rattle.digits.proofs.Number.{digits-length, number-of-digits}
-use Rattle.rows.specs.Words.{rowCount, sheetOf}
-use Rattle.rows.specs.Checks.{SoundRows}
-use Rattle.rows.proofs.Words.{sheet-rows, cost-word, deadline-word, period-word}
-use Rattle.rows.proofs.Checks.{sound-row}
+use Rattle.rows.specs.Words.{sheetOf}
+use Rattle.rows.specs.Checks.{notWhole}
+use Rattle.rows.proofs.Words.{cost-word, deadline-word, period-word}
+use Rattle.rows.proofs.Checks.{words-laid}
 use Rattle.grammar.specs.Grammar.{head, line, sheetLength, lineAllows, sheetAllows, processorsWritten, rowsWritten}
 use Rattle.grammar.specs.Lines.{firstLine, rowLine, lineOf, sheetBytes, wordOffset, wordWritten, wordsWritten}
 use Rattle.grammar.specs.Meaning.{Formed}
@@ -183,41 +183,41 @@ word-read bytes w k place row column =
     let offset : head + 21 * (w / 3) + 2 + 6 * (w % 3) ≡ head + 21 * k + place = omega arith in
     ap (λ (at : ℕ). number bytes at 6) offset
 
--- Words of sound rows, written and read back, are the same words.
-module _ (words : List ℕ) (processors : ℕ) (sound : SoundRows words) where
-  few-rows : (sheetOf words) .rows < 16 ^ 2
-  few-rows = rw sheet-rows (omega (arith, sound .at-most))
+-- Words of whole rows of allowed sizes, written and read back, are the same words.
+module _ (words : List ℕ) (processors : ℕ) (laid : notWhole words ≡ false) (sizes : Allowed (sheetOf words)) where
+  small-count : (sheetOf words) .rows < 16 ^ 2
+  small-count = omega (arith, few-rows (sheetOf words) sizes)
 
-  pub rows-same : rowsWritten (sheetBytes (sheetOf words) processors) ≡ rowCount words
-  rows-same = rows-back (sheetOf words) processors few-rows ∙ sheet-rows words
+  pub rows-same : rowsWritten (sheetBytes (sheetOf words) processors) ≡ (sheetOf words) .rows
+  rows-same = rows-back (sheetOf words) processors small-count
 
-  word-same : (w : ℕ) → w < 3 * rowCount words → wordWritten (sheetBytes (sheetOf words) processors) w ≡ getD words w 0
+  word-same : (w : ℕ) → w < 3 * (sheetOf words) .rows → wordWritten (sheetBytes (sheetOf words) processors) w ≡ getD words w 0
   word-same =
       let s = sheetOf words in
       let bytes = sheetBytes s processors in
-      by-column (λ w. wordWritten bytes w ≡ getD words w 0) (rowCount words)
+      by-column (λ w. wordWritten bytes w ≡ getD words w 0) (s .rows)
       (λ k here.
-      let sized = sound-row words sound k here in
+      let sized = row-sized s sizes k here in
       word-read bytes (3 * k) k 2 (omega arith) (omega arith)
-      ∙ cost-back s processors k (rw sheet-rows here) (omega arith)
+      ∙ cost-back s processors k here (omega arith)
       ∙ cost-word words k)
       (λ k here.
-      let sized = sound-row words sound k here in
+      let sized = row-sized s sizes k here in
       word-read bytes (3 * k + 1) k 8 (omega arith) (omega arith)
-      ∙ deadline-back s processors k (rw sheet-rows here) (omega arith)
+      ∙ deadline-back s processors k here (omega arith)
       ∙ deadline-word words k)
       (λ k here.
-      let sized = sound-row words sound k here in
+      let sized = row-sized s sizes k here in
       word-read bytes (3 * k + 2) k 14 (omega arith) (omega arith)
-      ∙ period-back s processors k (rw sheet-rows here) (omega arith)
+      ∙ period-back s processors k here (omega arith)
       ∙ period-word words k)
 
   pub words-same : wordsWritten (sheetBytes (sheetOf words) processors) ≡ words
   unfolding wordsWritten
   words-same =
       ap (λ (n : ℕ). listed (wordWritten (sheetBytes (sheetOf words) processors)) (3 * n)) rows-same
-      ∙ listed-same _ _ (3 * rowCount words) word-same
-      ∙ listed-back words (3 * rowCount words) (sound .whole)
+      ∙ listed-same _ _ (3 * (sheetOf words) .rows) word-same
+      ∙ listed-back words (3 * (sheetOf words) .rows) (words-laid words laid .whole)
 
   pub processors-same : processorsAllowed processors ≡ true → processorsWritten (sheetBytes (sheetOf words) processors) ≡ processors
   processors-same allowed =
@@ -225,4 +225,4 @@ module _ (words : List ℕ) (processors : ℕ) (sound : SoundRows words) where
 
   -- And the sheet has the form.
   pub sound-formed : Formed (sheetBytes (sheetOf words) processors)
-  sound-formed = written-formed (sheetOf words) processors few-rows
+  sound-formed = written-formed (sheetOf words) processors small-count

@@ -1,14 +1,14 @@
 -- What refusal 1 and its place mean, in plain words, and what it takes not to be refused.
 use mathlib.Core.Path.{_≡_}
-use mathlib.Core.Bool.{true, false}
+use mathlib.Core.Bool.{Bool, true, false}
 use mathlib.Core.List.{List}
 use mathlib.Core.Logic.{_⊎_}
 use mathlib.Core.Option.{Option, none, some}
 use Prim.Native.Nat.{ℕ, suc, _*_, _≤_, _<_}
 use lib.ListN.{length, getD}
-use Rattle.model.specs.Sheet.{processorsAllowed}
-use Rattle.rows.specs.Words.{rowCount}
-use Rattle.rows.specs.Checks.{SoundRows}
+use Rattle.model.specs.Sheet.{Sheet, Allowed, processorsAllowed}
+use Rattle.rows.specs.Words.{sheetOf}
+use Rattle.rows.specs.Checks.{notWhole}
 use Rattle.grammar.specs.Grammar.{sheetLength, sheetAllows, processorsWritten, rowsWritten}
 use Rattle.grammar.specs.Lines.{wordsWritten}
 
@@ -55,17 +55,22 @@ pub record FarAs (bytes : List ℕ) (place : ℕ) : Type 0 where
   pub some-sheet : SheetWith bytes place
   pub no-sheet : place < length bytes → (sheet : List ℕ) → Formed sheet → place < length sheet → AlikeBelow bytes sheet (suc place) → ⊥
 
--- What the checks after the form ask: sound rows, allowed processors, and room for the answer.
-pub record RowsFit (words : List ℕ) (processors room need : ℕ) : Type 0 where
-  pub sound : SoundRows words
+-- What the checks after the form ask: a layout that is not broken, a sheet of allowed sizes, allowed processors, and room for the answer.
+pub record RowsFit (broken : Bool) (s : Sheet) (processors room need : ℕ) : Type 0 where
+  pub laid : broken ≡ false
+  pub sizes : Allowed s
   pub allowed : processorsAllowed processors ≡ true
   pub enough : need ≤ room
 
--- What is asked of a sheet that is read: the form, sound rows, allowed processors, and room for three words a row.
+-- The same of rows in a word list.
+abbrev pub WordsFit : List ℕ → ℕ → ℕ → ℕ → Type 0
+WordsFit words = RowsFit (notWhole words) (sheetOf words)
+
+-- What is asked of a sheet that is read: the form, rows that fit, allowed processors, and room for three words a row.
 pub record Readable (bytes : List ℕ) (room : ℕ) : Type 0 where
   pub formed : Formed bytes
-  pub passed : RowsFit (wordsWritten bytes) (processorsWritten bytes) room (3 * rowsWritten bytes)
+  pub passed : WordsFit (wordsWritten bytes) (processorsWritten bytes) room (3 * rowsWritten bytes)
 
--- The same of writing: sound rows, allowed processors, and room for the sheet.
+-- The same of writing: rows that fit, allowed processors, and room for the sheet.
 abbrev pub Writable : List ℕ → ℕ → ℕ → Type 0
-Writable words processors room = RowsFit words processors room (sheetLength (rowCount words))
+Writable words processors room = WordsFit words processors room (sheetLength ((sheetOf words) .rows))

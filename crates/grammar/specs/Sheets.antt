@@ -1,13 +1,13 @@
 -- Reading and writing a sheet: the answer and the final contents of lent space, refused or not.
-use mathlib.Core.List.{List}
+use mathlib.Core.List.{List, [], _∷_}
 use mathlib.Core.Option.{Option, none, some}
 use Prim.Native.Nat.{ℕ, _*_}
 use lib.ListN.{length}
 use Rattle.laws.specs.Choice.{unlessRefused}
 use Rattle.laws.specs.Fill.{atFront}
 use Rattle.rows.specs.declared.Refusal.{Refusal}
-use Rattle.rows.specs.Words.{rowCount, sheetOf}
-use Rattle.rows.specs.Checks.{refused, processorsRefusal, roomRefusal, firstOf, wordsRefusal}
+use Rattle.rows.specs.Words.{sheetOf}
+use Rattle.rows.specs.Checks.{refused, processorsRefusal, roomRefusal, firstHeld, wordsRefusal}
 use Rattle.grammar.specs.declared.Read.{Read}
 use Rattle.grammar.specs.declared.Written.{Written}
 use Rattle.grammar.specs.Grammar.{sheetLength, processorsWritten, rowsWritten, firstWrong}
@@ -15,7 +15,7 @@ use Rattle.grammar.specs.Lines.{sheetBytes, wordsWritten}
 
 -- 4 and 7, which come between the checks on the row count and those on the rows: processors, and room for so much.
 unfoldable pub betweenRefusal : ℕ → ℕ → ℕ → ℕ
-betweenRefusal processors room need = firstOf (processorsRefusal processors) (roomRefusal room need)
+betweenRefusal processors room need = firstHeld (processorsRefusal processors ∷ roomRefusal room need ∷ [])
 
 -- The checks on a sheet of the right form with so many words of room: 2, 3, 4, 7, 8.
 unfoldable pub formedRefusal : List ℕ → ℕ → Refusal
@@ -50,7 +50,7 @@ wordsAfter bytes words = atFront ((readRefusal bytes (length words)) .number) (w
 
 -- The checks of writing: 2, 3, 4, 7, 8.
 unfoldable pub writeRefusal : List ℕ → ℕ → ℕ → Refusal
-writeRefusal words processors room = wordsRefusal words (betweenRefusal processors room (sheetLength (rowCount words)))
+writeRefusal words processors room = wordsRefusal words (betweenRefusal processors room (sheetLength ((sheetOf words) .rows)))
 
 -- What writing returns: the number of bytes written, or the refusal and 0.
 unfoldable pub writeAnswer : Refusal → ℕ → Written
@@ -60,7 +60,7 @@ writeAnswer refusal size =
 
 -- Writing a sheet: what it returns, and what it leaves in the lent bytes.
 unfoldable pub writeSheet : List ℕ → ℕ → ℕ → Written
-writeSheet words processors room = writeAnswer (writeRefusal words processors room) (sheetLength (rowCount words))
+writeSheet words processors room = writeAnswer (writeRefusal words processors room) (sheetLength ((sheetOf words) .rows))
 
 unfoldable pub bytesAfter : List ℕ → ℕ → List ℕ → List ℕ
 bytesAfter words processors out = atFront ((writeRefusal words processors (length out)) .number) (sheetBytes (sheetOf words) processors) out

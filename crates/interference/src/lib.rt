@@ -7,7 +7,8 @@ ghost use mathlib.Core.Path.{_≡_};
 ghost use Prim.Native.Nat.{_+_, _-_, _≤_, _<_};
 ghost use lib.ListN.{length};
 ghost use Rattle.model.specs.Interference.{share, carried, bclTerm};
-ghost use Rattle.rows.specs.Words.{rowCount, sheetOf};
+ghost use Rattle.rows.specs.Words.{sheetOf};
+ghost use Rattle.rows.specs.Inner.{Laid};
 ghost use Rattle.refinement.specs.Question.{Ready};
 ghost use Rattle.refinement.specs.Inner.{WindowOf, shares};
 
@@ -39,7 +40,7 @@ pub fn capped_share(
     window: u32,
     cap: u32,
 ) -> u32
-    requires { ⌜ Ready (now words) (now bounds) × (row < rowCount (now words)) × (other < rowCount (now words)) × WindowOf (sheetOf (now words)) row window cap ⌝ }
+    requires { ⌜ Ready (sheetOf (now words)) (now bounds) × (row < (sheetOf (now words)) .rows) × (other < (sheetOf (now words)) .rows) × WindowOf (sheetOf (now words)) row window cap × Laid (now words) ⌝ }
     ensures { λ r. ⌜ r ≡ bclTerm (sheetOf (now (words .entry))) row (now (bounds .entry)) other ⌝ }
 {
     let at = 3 * (other as usize);
@@ -55,7 +56,7 @@ pub fn capped_share(
 // Fills in what each other row takes at most, and 0 for the row itself, which is left out by its place: worked out once a turn, whatever X is
 // tried.
 pub fn fill_shares(words: &[u32], bounds: &[u32], row: u32, count: u32, out: &mut [u32])
-    requires { ⌜ Ready (now words) (now bounds) × (row < rowCount (now words)) × (count ≡ rowCount (now words)) × (length (now out) ≡ count) ⌝ }
+    requires { ⌜ Ready (sheetOf (now words)) (now bounds) × (row < (sheetOf (now words)) .rows) × (count ≡ (sheetOf (now words)) .rows) × (length (now out) ≡ count) × Laid (now words) ⌝ }
     ensures { λ r. ⌜ now (out .exit) ≡ shares (sheetOf (now (words .entry))) row (now (bounds .entry)) ⌝ }
 {
     let window = deadline(words, row);

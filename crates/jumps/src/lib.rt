@@ -12,7 +12,8 @@ ghost use lib.Dec.{leb};
 ghost use lib.ListN.{length, getD};
 ghost use Rattle.laws.specs.Sum.{total};
 ghost use Rattle.model.specs.Answer.{rtaAnswer};
-ghost use Rattle.rows.specs.Words.{rowCount, sheetOf, foundOf, boundOr};
+ghost use Rattle.rows.specs.Words.{sheetOf, foundOf, boundOr};
+ghost use Rattle.rows.specs.Inner.{Laid};
 ghost use Rattle.refinement.specs.Question.{Ready};
 ghost use Rattle.refinement.specs.Inner.{Rooms, Jumped};
 ghost use Rattle.refinement.specs.Inner.Kept.{KeptRow, KeptRows, Kept, Tried, lineAt, keptSum, Excluded};
@@ -199,7 +200,7 @@ pub fn rta_quickly(
     others: &mut [u32],
     room: &mut [u32],
 ) -> u32
-    requires { ⌜ Ready (now words) (now bounds) × (row < rowCount (now words)) × (count ≡ rowCount (now words)) × (1 ≤ processors) × (processors ≤ 64) × (length (now others) ≡ 320) × (length (now room) ≡ count) ⌝ }
+    requires { ⌜ Ready (sheetOf (now words)) (now bounds) × (row < (sheetOf (now words)) .rows) × (count ≡ (sheetOf (now words)) .rows) × (1 ≤ processors) × (processors ≤ 64) × (length (now others) ≡ 320) × (length (now room) ≡ count) × Laid (now words) ⌝ }
     ensures { λ r. ⌜ r ≡ boundOr (foundOf (rtaAnswer (sheetOf (now (words .entry))) processors row (now (bounds .entry)))) 0 ⌝ }
 {
     let own = cost(words, row);

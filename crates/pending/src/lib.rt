@@ -11,7 +11,8 @@ ghost use Prim.Native.Nat.{ℕ, _+_, _*_, _-_, _≤_, _<_, min};
 ghost use lib.ListN.{length, drop};
 ghost use Rattle.laws.specs.Sum.{total};
 ghost use Rattle.laws.specs.Fill.{listed};
-ghost use Rattle.rows.specs.Words.{rowCount, sheetOf};
+ghost use Rattle.rows.specs.Words.{sheetOf};
+ghost use Rattle.rows.specs.Inner.{Laid};
 ghost use Rattle.refinement.specs.Question.{Ready};
 ghost use Rattle.refinement.specs.Inner.{termOf, shareIn, reach};
 ghost use Rattle.refinement.specs.Inner.Kept.{KeptRow, KeptOf, Kept, putRow, termAt, topAt, roomAt, keptSum, Met};
@@ -87,7 +88,7 @@ pub fn meet(
     others: &mut [u32],
     before: Pending,
 ) -> Pending
-    requires { ⌜ Ready (now words) (now bounds) × (from ≤ to) × (to ≤ rowCount (now words)) × (window ≤ 1_000_000) × KeptOf from (now others) (before .left) (before .settled) ⌝ }
+    requires { ⌜ Ready (sheetOf (now words)) (now bounds) × (from ≤ to) × (to ≤ (sheetOf (now words)) .rows) × (window ≤ 1_000_000) × KeptOf from (now others) (before .left) (before .settled) × Laid (now words) ⌝ }
     ensures kept { λ r. ⌜ KeptOf to (now (others .exit)) (r .left) (r .settled) ⌝ }
     ensures sums { λ r. ⌜ ((x cap : ℕ) → 1 ≤ x → 1 ≤ cap → keptSum (now (others .exit)) (r .left) (r .settled) x cap + total (termOf (sheetOf (now (words .entry))) (now (bounds .entry)) (shareIn (sheetOf (now (words .entry))) (now (bounds .entry)) window) x cap) from ≡ keptSum (now (others .entry)) (before .left) (before .settled) x cap + total (termOf (sheetOf (now (words .entry))) (now (bounds .entry)) (shareIn (sheetOf (now (words .entry))) (now (bounds .entry)) window) x cap) to) ⌝ }
 {
@@ -124,7 +125,7 @@ pub fn meet_others(
     window: u32,
     others: &mut [u32],
 ) -> Pending
-    requires { ⌜ Ready (now words) (now bounds) × (row < rowCount (now words)) × (count ≡ rowCount (now words)) × (window ≡ (sheetOf (now words)) .deadline row) × (length (now others) ≡ 320) ⌝ }
+    requires { ⌜ Ready (sheetOf (now words)) (now bounds) × (row < (sheetOf (now words)) .rows) × (count ≡ (sheetOf (now words)) .rows) × (window ≡ (sheetOf (now words)) .deadline row) × (length (now others) ≡ 320) × Laid (now words) ⌝ }
     ensures { λ r. ⌜ Met (sheetOf (now (words .entry))) (now (bounds .entry)) (now (others .exit)) row (r .left) (r .settled) ((sheetOf (now (words .entry))) .cost row) ⌝ }
 {
     let none = Pending {

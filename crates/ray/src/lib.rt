@@ -8,10 +8,12 @@ use slopes::sum_of_lines;
 ghost use mathlib.Core.Path.{_≡_};
 ghost use Prim.Native.Nat.{ℕ, _+_, _*_, _-_, _≤_, _<_};
 ghost use lib.ListN.{length, getD};
-ghost use Rattle.model.specs.Inner.{along, Held};
-ghost use Rattle.rows.specs.Words.{rowCount, sheetOf};
+ghost use Rattle.model.specs.Inner.{along};
+ghost use Rattle.rows.specs.Words.{sheetOf};
+ghost use Rattle.rows.specs.Inner.{Laid};
 ghost use Rattle.refinement.specs.Question.{Ready};
 ghost use Rattle.refinement.specs.Refinement.{askOf};
+ghost use Rattle.refinement.specs.Inner.{Running};
 ghost use Rattle.refinement.specs.Inner.Ray.{OnWay, Reaches, Small, Roomy, Lowered, Descended};
 
 // For how many steps a row's turn allows the next one: its sum stays below what it has left.
@@ -25,8 +27,8 @@ pub fn row_reach(
     method: u32,
     most: u32,
 ) -> u32
-    requires { ⌜ OnWay (now words) (now bounds) (now drops) row most × (count ≡ rowCount (now words)) × (1 ≤ processors) × (processors ≤ 64) ⌝ }
-    ensures { λ r. ⌜ Reaches (sheetOf (now (words .entry))) (askOf (now (words .entry)) processors method) (now (bounds .entry)) (now (drops .entry)) row most r ⌝ }
+    requires { ⌜ OnWay (sheetOf (now words)) (now bounds) (now drops) row most × (count ≡ (sheetOf (now words)) .rows) × (1 ≤ processors) × (processors ≤ 64) × Laid (now words) ⌝ }
+    ensures { λ r. ⌜ Reaches (sheetOf (now (words .entry))) (askOf (sheetOf (now (words .entry))) processors method) (now (bounds .entry)) (now (drops .entry)) row most r ⌝ }
 {
     if most == 0 {
         return 0;
@@ -54,7 +56,7 @@ pub fn row_reach(
 
 // How many of its drops a row has above its cost.
 pub fn row_room(words: &[u32], bounds: &[u32], drops: &[u32], row: u32) -> u32
-    requires { ⌜ Ready (now words) (now bounds) × (length (now drops) ≡ rowCount (now words)) × (row < rowCount (now words)) ⌝ }
+    requires { ⌜ Ready (sheetOf (now words)) (now bounds) × (length (now drops) ≡ (sheetOf (now words)) .rows) × (row < (sheetOf (now words)) .rows) × Laid (now words) ⌝ }
     ensures { λ r. ⌜ r * getD (now (drops .entry)) row 0 + (sheetOf (now (words .entry))) .cost row ≤ getD (now (bounds .entry)) row 0 ⌝ }
 {
     let at = 3 * (row as usize);
@@ -67,8 +69,8 @@ pub fn row_room(words: &[u32], bounds: &[u32], drops: &[u32], row: u32) -> u32
 
 // How many steps every row has room for.
 pub fn most_steps(words: &[u32], bounds: &[u32], drops: &[u32], count: u32) -> u32
-    requires { ⌜ Ready (now words) (now bounds) × (count ≡ rowCount (now words)) × (length (now drops) ≡ count) ⌝ }
-    ensures { λ r. ⌜ Roomy (now (words .entry)) (now (bounds .entry)) (now (drops .entry)) r ⌝ }
+    requires { ⌜ Ready (sheetOf (now words)) (now bounds) × (count ≡ (sheetOf (now words)) .rows) × (length (now drops) ≡ count) × Laid (now words) ⌝ }
+    ensures { λ r. ⌜ Roomy (sheetOf (now (words .entry))) (now (bounds .entry)) (now (drops .entry)) r ⌝ }
 {
     let mut most = 1_000_000;
     let mut row = 0;
@@ -90,8 +92,8 @@ pub fn ray_pass(
     count: u32,
     most: u32,
 ) -> u32
-    requires { ⌜ Ready (now words) (now bounds) × (count ≡ rowCount (now words)) × (1 ≤ processors) × Held (sheetOf (now words)) (askOf (now words) processors method) (now bounds) × (processors ≤ 64) × Small (rowCount (now words)) (now drops) × Roomy (now words) (now bounds) (now drops) most ⌝ }
-    ensures { λ r. ⌜ Lowered (now (words .entry)) (askOf (now (words .entry)) processors method) (now (bounds .entry)) (now (bounds .exit)) (now (drops .exit)) r ⌝ }
+    requires { ⌜ Running (sheetOf (now words)) (now bounds) count processors method × Small ((sheetOf (now words)) .rows) (now drops) × Roomy (sheetOf (now words)) (now bounds) (now drops) most × Laid (now words) ⌝ }
+    ensures { λ r. ⌜ Lowered (sheetOf (now (words .entry))) (askOf (sheetOf (now (words .entry))) processors method) (now (bounds .entry)) (now (bounds .exit)) (now (drops .exit)) r ⌝ }
 {
     let mut steps = most;
     let mut row = 0;
@@ -143,8 +145,8 @@ pub fn note_drops(
     count: u32,
     sweeps: u32,
 )
-    requires { ⌜ Ready (now words) (now bounds) × (count ≡ rowCount (now words)) × (length (now drops) ≡ count) × (length (now before) ≡ count) ⌝ }
-    ensures { λ r. ⌜ Small (rowCount (now (words .entry))) (now (drops .exit)) ⌝ }
+    requires { ⌜ Ready (sheetOf (now words)) (now bounds) × (count ≡ (sheetOf (now words)) .rows) × (length (now drops) ≡ count) × (length (now before) ≡ count) × Laid (now words) ⌝ }
+    ensures { λ r. ⌜ Small ((sheetOf (now (words .entry))) .rows) (now (drops .exit)) ⌝ }
 {
     let mut row = 0;
     while row < count {
@@ -170,8 +172,8 @@ pub fn ray_once(
     method: u32,
     count: u32,
 ) -> u32
-    requires { ⌜ Ready (now words) (now bounds) × (count ≡ rowCount (now words)) × (1 ≤ processors) × Held (sheetOf (now words)) (askOf (now words) processors method) (now bounds) × (processors ≤ 64) × Small (rowCount (now words)) (now drops) ⌝ }
-    ensures { λ r. ⌜ Descended (now (words .entry)) (askOf (now (words .entry)) processors method) (now (bounds .entry)) (now (bounds .exit)) (now (drops .exit)) ⌝ }
+    requires { ⌜ Running (sheetOf (now words)) (now bounds) count processors method × Small ((sheetOf (now words)) .rows) (now drops) × Laid (now words) ⌝ }
+    ensures { λ r. ⌜ Descended (sheetOf (now (words .entry))) (askOf (sheetOf (now (words .entry))) processors method) (now (bounds .entry)) (now (bounds .exit)) (now (drops .exit)) ⌝ }
 {
     let most = most_steps(words, bounds, drops, count);
     let further = ray_pass(words, bounds, drops, processors, method, count, most);
@@ -188,8 +190,8 @@ pub fn descend(
     method: u32,
     count: u32,
 )
-    requires { ⌜ Ready (now words) (now bounds) × (count ≡ rowCount (now words)) × (1 ≤ processors) × Held (sheetOf (now words)) (askOf (now words) processors method) (now bounds) × (processors ≤ 64) × Small (rowCount (now words)) (now drops) ⌝ }
-    ensures { λ r. ⌜ Descended (now (words .entry)) (askOf (now (words .entry)) processors method) (now (bounds .entry)) (now (bounds .exit)) (now (drops .exit)) ⌝ }
+    requires { ⌜ Running (sheetOf (now words)) (now bounds) count processors method × Small ((sheetOf (now words)) .rows) (now drops) × Laid (now words) ⌝ }
+    ensures { λ r. ⌜ Descended (sheetOf (now (words .entry))) (askOf (sheetOf (now (words .entry))) processors method) (now (bounds .entry)) (now (bounds .exit)) (now (drops .exit)) ⌝ }
 {
     let mut tries = count;
     while 0 < tries {
@@ -211,8 +213,8 @@ pub fn hasten(
     count: u32,
     sweeps: u32,
 )
-    requires { ⌜ Ready (now words) (now bounds) × (count ≡ rowCount (now words)) × (1 ≤ processors) × Held (sheetOf (now words)) (askOf (now words) processors method) (now bounds) × (processors ≤ 64) × Small (rowCount (now words)) (now drops) ⌝ }
-    ensures { λ r. ⌜ Descended (now (words .entry)) (askOf (now (words .entry)) processors method) (now (bounds .entry)) (now (bounds .exit)) (now (drops .exit)) ⌝ }
+    requires { ⌜ Running (sheetOf (now words)) (now bounds) count processors method × Small ((sheetOf (now words)) .rows) (now drops) × Laid (now words) ⌝ }
+    ensures { λ r. ⌜ Descended (sheetOf (now (words .entry))) (askOf (sheetOf (now (words .entry))) processors method) (now (bounds .entry)) (now (bounds .exit)) (now (drops .exit)) ⌝ }
 {
     if sweeps % 4 != 0 {
         return;

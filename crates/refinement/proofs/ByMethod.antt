@@ -7,9 +7,9 @@ use Rattle.model.specs.Sheet.{Sheet}
 use Rattle.model.specs.Answer.{bclAnswer, rtaAnswer, methodOf, answer}
 use Rattle.model.proofs.Answer.{method-zero, method-other, answer-within}
 use Rattle.rows.specs.declared.Found.{Found}
-use Rattle.rows.specs.Words.{rowCount, sheetOf, foundOf, boundOr, foundFrom}
+use Rattle.rows.specs.Words.{foundOf, boundOr, foundFrom}
 use Rattle.rows.proofs.Words.{found-back}
-use Rattle.rows.proofs.Checks.{sound-row}
+use Rattle.model.proofs.Sheet.{row-sized}
 use Rattle.refinement.specs.Question.{Ready}
 
 module _ (s : Sheet) (m k : ℕ) (R : List ℕ) (method : ℕ) (found : Found) where
@@ -22,12 +22,12 @@ module _ (s : Sheet) (m k : ℕ) (R : List ℕ) (method : ℕ) (found : Found) w
   by-rta other is-found = rw (method-other method other) is-found
 
 -- A row's answer is told by one number: its bound is not below its cost, which is not 0.
-pub found-told : (words R : List ℕ) (m k method bound : ℕ) (found : Found) → Ready words R → k < rowCount words
-    → bound ≡ boundOr (foundOf (answer (methodOf method) (sheetOf words) m k R)) 0 → found ≡ foundFrom bound
-    → found ≡ foundOf (answer (methodOf method) (sheetOf words) m k R)
-found-told words R m k method bound found ready inside is-bound is-found =
-    let sized = sound-row words (ready .rows) k inside in
+pub found-told : (s : Sheet) (R : List ℕ) (m k method bound : ℕ) (found : Found) → Ready s R → k < s .rows
+    → bound ≡ boundOr (foundOf (answer (methodOf method) s m k R)) 0 → found ≡ foundFrom bound
+    → found ≡ foundOf (answer (methodOf method) s m k R)
+found-told s R m k method bound found ready inside is-bound is-found =
+    let sized = row-sized s (ready .rows) k inside in
     is-found
     ∙ ap foundFrom is-bound
-    ∙ found-back (answer (methodOf method) (sheetOf words) m k R)
-    (λ x is-x. omega (arith, sized .positive, answer-within (sheetOf words) m k R (methodOf method) x is-x .0))
+    ∙ found-back (answer (methodOf method) s m k R)
+    (λ x is-x. omega (arith, sized .positive, answer-within s m k R (methodOf method) x is-x .0))

@@ -11,143 +11,139 @@ use lib.Dec.{eqb}
 use Rattle.laws.specs.Bits.{bit, bitAt}
 use Rattle.laws.specs.Choice.{pick, orElse, isSome}
 use Rattle.laws.proofs.Bits.{bits-tell}
+use Rattle.model.specs.Sheet.{Sheet, Allowed}
 use Rattle.model.specs.Answer.{methodOf}
-use Rattle.model.specs.Refine.{rounds, atOnce, marked, marks, Largest, turn}
+use Rattle.model.specs.Refine.{rounds, atOnce, marked, Largest, turn}
 use Rattle.model.proofs.Engines.{marks-say, unmarked-deadline, largest-unique}
 use Rattle.model.proofs.Methods.{engines-agree, rta-dominates}
 use Rattle.model.proofs.Refine.{turn-from-cost, turn-by-deadline}
+use Rattle.model.proofs.Sheet.{row-sized}
 use Rattle.rows.specs.declared.Refusal.{Refusal}
 use Rattle.rows.specs.declared.Found.{Found}
 use Rattle.rows.specs.declared.Found.the-variants.{At, Nowhere}
-use Rattle.rows.specs.Words.{rowCount, sheetOf, foundOf}
-use Rattle.rows.specs.Checks.{SoundRows}
-use Rattle.rows.proofs.Words.{sheet-rows}
-use Rattle.rows.proofs.Checks.{sound-row}
+use Rattle.rows.specs.Words.{foundOf}
 use Rattle.refinement.specs.declared.Refined.{Refined}
 use Rattle.refinement.specs.declared.OneRow.{OneRow}
-use Rattle.refinement.specs.Refinement.{askOf, refineRefusal, finalBounds, refined, refinedWords, EntriesAgree, Settled, NoWorse, Engine, AskedAgain, EndsAlike}
-use Rattle.refinement.specs.Question.{Ready, Askable}
-use Rattle.refinement.proofs.Refinement.{rounds-length, refine-answered, refining, refined-number}
+use Rattle.refinement.specs.Refinement.{askOf, refineRefusalOf, finalBounds, finalMarks, handed, refinedOf, refinedSpaceOf, EntriesAgree, Settled, NoWorse, Engine, AskedAgain, EndsAlike}
+use Rattle.refinement.specs.Question.{oneRowRefusalOf, Ready, Posed}
+use Rattle.refinement.proofs.Refinement.{rounds-length, handed-whole, refine-answered, refining, refined-number}
 use Rattle.refinement.proofs.Question.{askable, one-row-answered}
 use Rattle.refinement.proofs.Steps.{ask-regular}
 
--- Both engines give the same final bounds for any words.
-same-final : (words : List ℕ) (m method : ℕ) → finalBounds rounds words m method ≡ finalBounds atOnce words m method
+-- Both engines give the same final bounds for any sheet.
+same-final : (s : Sheet) (m method : ℕ) → finalBounds rounds s m method ≡ finalBounds atOnce s m method
 unfolding finalBounds askOf
-same-final words m method = engines-agree (methodOf method) (sheetOf words) m .same-bounds
+same-final s m method = engines-agree (methodOf method) s m .same-bounds
 
 -- The two entries answer and write the same, refused or not.
-pub entries-agree : (words : List ℕ) (m method : ℕ) (out : List ℕ) → EntriesAgree words m method out
-unfolding refined refinedWords
-entries-agree words m method out =
-    record { same-answer = rw (same-final words m method); same-words = rw (same-final words m method) }
+pub entries-agree : (refusal : Refusal) (s : Sheet) (m method : ℕ) (out : List ℕ) → EntriesAgree refusal s m method out
+unfolding refinedOf refinedSpaceOf finalMarks handed
+entries-agree refusal s m method out = record { same-answer = rw (same-final s m method); same-words = rw (same-final s m method) }
 
 -- The final bounds are the largest consistent set.
-final-largest : (words : List ℕ) (m method : ℕ) → Largest (sheetOf words) (askOf words m method) (rounds (sheetOf words) (askOf words m method))
-unfolding askOf
-final-largest words m method = engines-agree (methodOf method) (sheetOf words) m .largest
+final-largest : (s : Sheet) (m method : ℕ) → Largest s (askOf s m method) (finalBounds rounds s m method)
+unfolding finalBounds askOf
+final-largest s m method = engines-agree (methodOf method) s m .largest
 
 -- Every final bound lies from its row's cost to its deadline.
-final-ready : (words : List ℕ) (m method : ℕ) → SoundRows words → Ready words (rounds (sheetOf words) (askOf words m method))
-final-ready words m method sound =
-    let s = sheetOf words in
-    let ask = askOf words m method in
-    let consistent = final-largest words m method .consistent in
+final-ready : (s : Sheet) (m method : ℕ) → Allowed s → Ready s (finalBounds rounds s m method)
+final-ready s m method sizes =
+    let ask = askOf s m method in
+    let consistent = final-largest s m method .consistent in
     record {
-      rows = sound;
-      one-each = rounds-length words m method;
+      rows = sizes;
+      one-each = rounds-length s m method;
       in-range = λ k h.
-          let sized = sound-row words sound k (rw (← sheet-rows words) h) in
+          let sized = row-sized s sizes k h in
           rw (consistent .by-turn k h) (
-            omega (arith, sized .by-deadline, turn-from-cost s ask (ask-regular words m method) k (rounds s ask)),
-            turn-by-deadline s ask (ask-regular words m method) k (rounds s ask),
+            omega (arith, sized .by-deadline, turn-from-cost s ask (ask-regular s m method) k (finalBounds rounds s m method)),
+            turn-by-deadline s ask (ask-regular s m method) k (finalBounds rounds s m method),
           );
     }
 
-module _ (words : List ℕ) (m method : ℕ) (out : List ℕ) (passed : (refineRefusal words m method (length out)) .number ≡ 0) where
-  -- What is answered and written where nothing is refused.
-  whole : _≡_ {A = Refined} (record { refusal = 0; place = 0; marks = marks (sheetOf words) (askOf words m method) (rounds (sheetOf words) (askOf words m method)) })
-      (refined rounds words m method (length out))
-  whole = refine-answered rounds words m method out passed _ (rowCount words) _ refl refl (rounds-length words m method) .0
+-- The answer under the final bounds, by whether there is one.
+told-again : (o : Option ℕ) (deadline bound : ℕ) → bound ≡ orElse o deadline → foundOf o ≡ pick (eqb (bit (isSome o)) 1) (At bound) Nowhere
+unfolding foundOf
+told-again none deadline bound is-bound = refl
+told-again (some x) deadline bound is-bound = ap At (sym is-bound)
 
-  answered : _≡_ {A = ℕ} (marks (sheetOf words) (askOf words m method) (rounds (sheetOf words) (askOf words m method)))
-      ((refined rounds words m method (length out)) .marks)
+module _ (refusal : Refusal) (s : Sheet) (m method : ℕ) (out : List ℕ) (passed : refusal .number ≡ 0) where
+  -- What is answered and written where nothing is refused.
+  whole : _≡_ {A = Refined} (record { refusal = 0; place = 0; marks = finalMarks rounds s m method })
+      (refinedOf rounds refusal s m method)
+  whole = refine-answered rounds refusal s m method out passed _ (s .rows) _ refl (handed-whole rounds s m method) (rounds-length s m method) .0
+
+  answered : _≡_ {A = ℕ} (finalMarks rounds s m method) ((refinedOf rounds refusal s m method) .marks)
   answered = ap (λ (r : Refined). r .marks) whole
 
-  rounds-number : _≡_ {A = ℕ} ((refined rounds words m method (length out)) .refusal) 0
+  rounds-number : _≡_ {A = ℕ} ((refinedOf rounds refusal s m method) .refusal) 0
   rounds-number = ap (λ (r : Refined). r .refusal) (sym whole)
 
-  written : rounds (sheetOf words) (askOf words m method) ++ drop (rowCount words) out ≡ refinedWords rounds words m method out
-  written = refine-answered rounds words m method out passed _ (rowCount words) _ refl refl (rounds-length words m method) .1
+  written : finalBounds rounds s m method ++ drop (s .rows) out ≡ refinedSpaceOf rounds refusal s m method out
+  written = refine-answered rounds refusal s m method out passed _ (s .rows) _ refl (handed-whole rounds s m method) (rounds-length s m method) .1
 
   -- Word k is final bound k.
-  word-at : (k : ℕ) → k < rowCount words
-      → getD (refinedWords rounds words m method out) k 0 ≡ getD (rounds (sheetOf words) (askOf words m method)) k 0
+  word-at : (k : ℕ) → k < s .rows → getD (refinedSpaceOf rounds refusal s m method out) k 0 ≡ getD (finalBounds rounds s m method) k 0
   word-at k h =
       ap (λ (l : List ℕ). getD l k 0) (sym written)
-      ∙ List·getD-append (rounds (sheetOf words) (askOf words m method)) (drop (rowCount words) out) 0 k (rw rounds-length h)
+      ∙ List·getD-append (finalBounds rounds s m method) (drop (s .rows) out) 0 k (rw rounds-length h)
 
-  front : take (rowCount words) (refinedWords rounds words m method out) ≡ rounds (sheetOf words) (askOf words m method)
-  front = ap (take (rowCount words)) (sym written) ∙ take-at _ (drop (rowCount words) out) (rowCount words) (rounds-length words m method)
+  front : take (s .rows) (refinedSpaceOf rounds refusal s m method out) ≡ finalBounds rounds s m method
+  front = ap (take (s .rows)) (sym written) ∙ take-at _ (drop (s .rows) out) (s .rows) (rounds-length s m method)
 
   -- Bit k is row k's mark.
-  mark-at : (k : ℕ) → k < rowCount words
-      → bitAt ((refined rounds words m method (length out)) .marks) k
-      ≡ bit (marked (askOf words m method) (rounds (sheetOf words) (askOf words m method)) k)
+  mark-at : (k : ℕ) → k < s .rows
+      → bitAt ((refinedOf rounds refusal s m method) .marks) k ≡ bit (marked (askOf s m method) (finalBounds rounds s m method) k)
+  unfolding finalMarks
   mark-at k h =
-      ap (λ (n : ℕ). bitAt n k) (sym answered)
-      ∙ marks-say (sheetOf words) (askOf words m method) (rounds (sheetOf words) (askOf words m method)) .each k (rw sheet-rows h)
+      ap (λ (n : ℕ). bitAt n k) (sym answered) ∙ marks-say s (askOf s m method) (finalBounds rounds s m method) .each k h
 
   -- Demand 3 of the rounds entry.
-  rounds-settled : Settled words m method (refined rounds words m method (length out)) (refinedWords rounds words m method out) out
+  rounds-settled : Settled s m method (refinedOf rounds refusal s m method) (refinedSpaceOf rounds refusal s m method out) out
+  unfolding finalMarks
   rounds-settled =
-      let s = sheetOf words in
-      let ask = askOf words m method in
+      let ask = askOf s m method in
+      let final = finalBounds rounds s m method in
       record {
         number = rounds-number;
         place = ap (λ (r : Refined). r .place) (sym whole);
-        bounds = rw front (final-largest words m method);
-        behind = ap (drop (rowCount words)) (sym written) ∙ drop-at (rounds s ask) (drop (rowCount words) out) (rowCount words) (rounds-length words m method);
+        bounds = rw front (final-largest s m method);
+        behind = ap (drop (s .rows)) (sym written) ∙ drop-at final (drop (s .rows) out) (s .rows) (rounds-length s m method);
         each-mark = λ k h. mark-at k h ∙ ap (λ (l : List ℕ). bit (marked ask l k)) (sym front);
-        no-more = rw (← answered, ← sheet-rows words) (marks-say s ask (rounds s ask) .within);
+        no-more = rw (← answered) (marks-say s ask final .within);
         unmarked = λ k h zero.
             word-at k h
-            ∙ unmarked-deadline s ask (rounds s ask) (final-largest words m method .consistent) k (rw sheet-rows h)
-            (not-set (marked ask (rounds s ask) k) (sym (mark-at k h) ∙ zero));
+            ∙ unmarked-deadline s ask final (final-largest s m method .consistent) k h
+            (not-set (marked ask final k) (sym (mark-at k h) ∙ zero));
       }
     where
       not-set : (b : Bool) → bit b ≡ 0 → b ≡ false
       not-set true zero = absurd (omega arith)
       not-set false zero = refl
 
-  -- The answer under the final bounds, by whether there is one.
-  told-again : (o : Option ℕ) (deadline bound : ℕ) → bound ≡ orElse o deadline → foundOf o ≡ pick (eqb (bit (isSome o)) 1) (At bound) Nowhere
-  unfolding foundOf
-  told-again none deadline bound is-bound = refl
-  told-again (some x) deadline bound is-bound = ap At (sym is-bound)
-
   -- The one-row entry, asked with the words handed out.
-  rounds-asked-again : AskedAgain words m method (refined rounds words m method (length out)) (refinedWords rounds words m method out)
+  rounds-asked-again : (broken : Bool) → Posed broken s m method
+      → AskedAgain broken s m method (refinedOf rounds refusal s m method) (refinedSpaceOf rounds refusal s m method out)
   unfolding askOf marked turn
-  rounds-asked-again k h =
-      let s = sheetOf words in
-      let ask = askOf words m method in
-      let facts = refining words m method (length out) passed in
-      let asks : Askable words m method (rounds s ask) k =
-      record { ready = final-ready words m method (facts .rows); there = h; some-processor = facts .some-processor; few = facts .few; by-method = facts .by-method } in
-      let zero = ap (λ (r : Refusal). r .number) (askable words m method (rounds s ask) k asks) in
-      let bound : getD (refinedWords rounds words m method out) k 0 ≡ turn s ask k (rounds s ask) =
-      word-at k h ∙ final-largest words m method .consistent .by-turn k (rw sheet-rows h) in
-      let told = told-again (ask k (rounds s ask)) (s .deadline k) (getD (refinedWords rounds words m method out) k 0) bound in
-      rw (front, mark-at k h) (one-row-answered words m method (rounds s ask) k zero ∙ ap (λ (f : Found). let r : OneRow = record { refusal = 0; place = 0; answer = f } in r) told)
+  rounds-asked-again broken posed k h =
+      let ask = askOf s m method in
+      let final = finalBounds rounds s m method in
+      let zero = ap (λ (r : Refusal). r .number)
+      (askable broken s m method final k (record { posed = posed; ready = final-ready s m method (posed .sizes); there = h })) in
+      let bound : getD (refinedSpaceOf rounds refusal s m method out) k 0 ≡ turn s ask k final =
+      word-at k h ∙ final-largest s m method .consistent .by-turn k h in
+      let told = told-again (ask k final) (s .deadline k) (getD (refinedSpaceOf rounds refusal s m method out) k 0) bound in
+      rw (front, mark-at k h)
+      (one-row-answered (oneRowRefusalOf broken s m method final k) s m method final k zero
+      ∙ ap (λ (f : Found). let r : OneRow = record { refusal = 0; place = 0; answer = f } in r) told)
 
 -- What is settled fixes answer and words: the largest consistent set is one, and a number is told by its bits.
-pub settled-fixed : (words : List ℕ) (m method : ℕ) (first second : Refined) (after other out : List ℕ) → Settled words m method first after out
-    → Settled words m method second other out → (first ≡ second) × (after ≡ other)
-settled-fixed words m method first second after other out one two =
-    let n = rowCount words in
-    let ask = askOf words m method in
-    let front = largest-unique (sheetOf words) ask (take n after) (take n other) (one .bounds) (two .bounds) in
+pub settled-fixed : (s : Sheet) (m method : ℕ) (first second : Refined) (after other out : List ℕ) → Settled s m method first after out
+    → Settled s m method second other out → (first ≡ second) × (after ≡ other)
+settled-fixed s m method first second after other out one two =
+    let n = s .rows in
+    let ask = askOf s m method in
+    let front = largest-unique s ask (take n after) (take n other) (one .bounds) (two .bounds) in
     let same : after ≡ other =
     sym (take-append-drop n after) ∙ ap₂ (λ (a b : List ℕ). a ++ b) front (one .behind ∙ sym (two .behind)) ∙ take-append-drop n other in
     let marks-same = bits-tell n (first .marks) (second .marks) (one .no-more) (two .no-more)
@@ -159,45 +155,48 @@ settled-fixed words m method first second after other out one two =
 
 -- Both engines end alike, and an engine that does answers and writes what the rounds engine does.
 pub rounds-alike : EndsAlike rounds
-rounds-alike words m method = refl
+rounds-alike s m method = refl
 
 pub at-once-alike : EndsAlike atOnce
-at-once-alike words m method = sym (same-final words m method)
+at-once-alike s m method = sym (same-final s m method)
 
-module _ (engine : Engine) (alike : EndsAlike engine) (words : List ℕ) (m method : ℕ) (out : List ℕ) where
-  alike-answer : refined engine words m method (length out) ≡ refined rounds words m method (length out)
-  unfolding refined
-  alike-answer = rw (alike words m method)
+module _ (engine : Engine) (alike : EndsAlike engine) (refusal : Refusal) (s : Sheet) (m method : ℕ) where
+  alike-answer : refinedOf engine refusal s m method ≡ refinedOf rounds refusal s m method
+  unfolding refinedOf finalMarks
+  alike-answer = rw (alike s m method)
 
-  alike-words : refinedWords engine words m method out ≡ refinedWords rounds words m method out
-  unfolding refinedWords
-  alike-words = rw (alike words m method)
+  alike-words : (out : List ℕ) → refinedSpaceOf engine refusal s m method out ≡ refinedSpaceOf rounds refusal s m method out
+  unfolding refinedSpaceOf handed
+  alike-words out = rw (alike s m method)
 
   -- Demand 3 of either entry, where it is not refused.
-  pub entry-settled : (refined engine words m method (length out)) .refusal ≡ 0
-      → Settled words m method (refined engine words m method (length out)) (refinedWords engine words m method out) out
-  entry-settled zero =
-      rw (alike-answer, alike-words) (rounds-settled words m method out (sym (refined-number engine words m method out) ∙ zero))
+  pub entry-settled : (out : List ℕ) → (refinedOf engine refusal s m method) .refusal ≡ 0
+      → Settled s m method (refinedOf engine refusal s m method) (refinedSpaceOf engine refusal s m method out) out
+  entry-settled out zero =
+      rw (alike-answer, alike-words) (rounds-settled refusal s m method out (sym (refined-number engine refusal s m method out) ∙ zero))
 
-  pub entry-asked-again : (refined engine words m method (length out)) .refusal ≡ 0
-      → AskedAgain words m method (refined engine words m method (length out)) (refinedWords engine words m method out)
-  entry-asked-again zero =
-      rw (alike-answer, alike-words) (rounds-asked-again words m method out (sym (refined-number engine words m method out) ∙ zero))
+-- And the one-row question asked with the words that it hands out.
+pub entry-asked-again : (engine : Engine) → EndsAlike engine → (broken : Bool) (s : Sheet) (m method room need : ℕ) (out : List ℕ)
+    → let refusal = refineRefusalOf broken s m method room need in
+    (refinedOf engine refusal s m method) .refusal ≡ 0
+    → AskedAgain broken s m method (refinedOf engine refusal s m method) (refinedSpaceOf engine refusal s m method out)
+entry-asked-again engine alike broken s m method room need out zero =
+    let refusal = refineRefusalOf broken s m method room need in
+    let passed : refusal .number ≡ 0 = sym (refined-number engine refusal s m method out) ∙ zero in
+    rw (alike-answer engine alike refusal s m method, alike-words engine alike refusal s m method out)
+    (rounds-asked-again refusal s m method out passed broken (refining broken s m method room need passed .posed))
 
 -- RTA against BCL, of the rounds entry's answers: no word above, and no mark lost.
-rounds-no-worse : (words : List ℕ) (m : ℕ) (out other : List ℕ) → (refineRefusal words m 1 (length out)) .number ≡ 0
-    → (refineRefusal words m 0 (length other)) .number ≡ 0
-    → NoWorse words (refined rounds words m 1 (length out)) (refined rounds words m 0 (length other))
-    (refinedWords rounds words m 1 out) (refinedWords rounds words m 0 other)
-unfolding askOf methodOf
-rounds-no-worse words m out other rta-passed bcl-passed =
-    let s = sheetOf words in
+rounds-no-worse : (first second : Refusal) (s : Sheet) (m : ℕ) (out other : List ℕ) → first .number ≡ 0 → second .number ≡ 0
+    → NoWorse s (refinedOf rounds first s m 1) (refinedOf rounds second s m 0) (refinedSpaceOf rounds first s m 1 out) (refinedSpaceOf rounds second s m 0 other)
+unfolding finalBounds askOf methodOf
+rounds-no-worse first second s m out other rta-passed bcl-passed =
     let dominates = rta-dominates s m in
     record {
-      bounds = λ k h. rw (word-at words m 1 out rta-passed k h, word-at words m 0 other bcl-passed k h) (dominates .bounds k (rw sheet-rows h));
+      bounds = λ k h. rw (word-at first s m 1 out rta-passed k h, word-at second s m 0 other bcl-passed k h) (dominates .bounds k h);
       keeps-marks = λ k h set-it-is.
-          mark-at words m 1 out rta-passed k h
-          ∙ ap bit (dominates .keeps-marks k (is-set _ (sym (mark-at words m 0 other bcl-passed k h) ∙ set-it-is)));
+          mark-at first s m 1 out rta-passed k h
+          ∙ ap bit (dominates .keeps-marks k (is-set _ (sym (mark-at second s m 0 other bcl-passed k h) ∙ set-it-is)));
     }
   where
     is-set : (b : Bool) → bit b ≡ 1 → b ≡ true
@@ -205,23 +204,21 @@ rounds-no-worse words m out other rta-passed bcl-passed =
     is-set false one = absurd (omega arith)
 
 -- And of any two entries, whatever words they were lent.
-pub rta-no-worse : (engine second : Engine) → EndsAlike engine → EndsAlike second → (words : List ℕ) (m : ℕ) (out other : List ℕ)
-    → (refined engine words m 1 (length out)) .refusal ≡ 0 → (refined second words m 0 (length other)) .refusal ≡ 0
-    → NoWorse words (refined engine words m 1 (length out)) (refined second words m 0 (length other))
-    (refinedWords engine words m 1 out) (refinedWords second words m 0 other)
-rta-no-worse engine second alike alike-too words m out other rta-zero bcl-zero =
+pub rta-no-worse : (engine other : Engine) → EndsAlike engine → EndsAlike other → (first second : Refusal) (s : Sheet) (m : ℕ) (out behind : List ℕ)
+    → (refinedOf engine first s m 1) .refusal ≡ 0 → (refinedOf other second s m 0) .refusal ≡ 0
+    → NoWorse s (refinedOf engine first s m 1) (refinedOf other second s m 0) (refinedSpaceOf engine first s m 1 out) (refinedSpaceOf other second s m 0 behind)
+rta-no-worse engine other alike alike-too first second s m out behind rta-zero bcl-zero =
     rw (
-      alike-answer engine alike words m 1 out,
-      alike-words engine alike words m 1 out,
-      alike-answer second alike-too words m 0 other,
-      alike-words second alike-too words m 0 other,
+      alike-answer engine alike first s m 1,
+      alike-words engine alike first s m 1 out,
+      alike-answer other alike-too second s m 0,
+      alike-words other alike-too second s m 0 behind,
     )
-    (rounds-no-worse words m out other (sym (refined-number engine words m 1 out) ∙ rta-zero) (sym (refined-number second words m 0 other) ∙ bcl-zero))
+    (rounds-no-worse first second s m out behind
+    (sym (refined-number engine first s m 1 out) ∙ rta-zero) (sym (refined-number other second s m 0 behind) ∙ bcl-zero))
 
--- The final bounds of sound rows are at most a million.
-pub final-small : (words : List ℕ) (m method : ℕ) → SoundRows words
-    → (k : ℕ) → k < rowCount words → getD (finalBounds atOnce words m method) k 0 ≤ 1_000_000
-unfolding finalBounds
-final-small words m method sound k h =
-    let sized = sound-row words sound k h in
-    rw (at-once-alike words m method) (omega (arith, final-ready words m method sound .in-range k (rw sheet-rows h) .1))
+-- The final bounds of allowed rows are at most a million.
+pub final-small : (s : Sheet) (m method : ℕ) → Allowed s → (k : ℕ) → k < s .rows → getD (finalBounds atOnce s m method) k 0 ≤ 1_000_000
+final-small s m method sizes k h =
+    let sized = row-sized s sizes k h in
+    rw (at-once-alike s m method) (omega (arith, final-ready s m method sizes .in-range k h .1))

@@ -16,51 +16,50 @@ use Rattle.model.specs.Refine.{Ask}
 use Rattle.model.specs.Inner.{along, Held}
 use Rattle.model.proofs.Refine.{Regular}
 use Rattle.model.proofs.Ray.{next-step, within, within-gone, within-left, stage-at, along-none, along-lower, OnRay, ray-bound, ray-on, ray-skip, ray-ahead}
-use Rattle.rows.specs.Words.{rowCount, sheetOf}
-use Rattle.rows.proofs.Words.{sheet-rows}
-use Rattle.rows.proofs.Checks.{sound-row}
+use Rattle.model.proofs.Sheet.{row-sized}
 use Rattle.refinement.specs.Inner.Ray.{OnWay, Reaches, Small, Roomy, Lowered, Descended}
+use Rattle.refinement.specs.Inner.{Running}
+use Rattle.refinement.specs.Refinement.{askOf}
 use Rattle.refinement.specs.Question.{Ready}
-use Rattle.refinement.proofs.Limits.{bound-in-range}
-use Rattle.refinement.proofs.Steps.{ready-lower}
+use Rattle.refinement.proofs.Steps.{ready-lower, running-lower}
 
-module _ (words : List ℕ) (ask : Ask) (regular : Regular (sheetOf words) ask) (R drops : List ℕ) (most : ℕ) (ready : Ready words R)
-    (small : Small (rowCount words) drops) (roomy : Roomy words R drops most) where
+module _ (s : Sheet) (ask : Ask) (regular : Regular s ask) (R drops : List ℕ) (most : ℕ) (ready : Ready s R)
+    (small : Small (s .rows) drops) (roomy : Roomy s R drops most) where
   -- Where a row stands before its first step or behind it.
-  row-now : (k i : ℕ) (now : List ℕ) (steps : ℕ) → OnRay (sheetOf words) ask R drops k steps now → i < rowCount words
+  row-now : (k i : ℕ) (now : List ℕ) (steps : ℕ) → OnRay s ask R drops k steps now → i < s .rows
       → (getD now i 0 ≡ getD R i 0 - getD drops i 0) ⊎ (getD now i 0 ≡ getD R i 0)
   row-now k i now steps on inside =
       let at : getD now i 0 ≡ within R drops k 0 i =
-      ap (λ (l : List ℕ). getD l i 0) (on .place) ∙ stage-at ((sheetOf words) .rows) R drops k 0 i (rw sheet-rows inside) in
+      ap (λ (l : List ℕ). getD l i 0) (on .place) ∙ stage-at (s .rows) R drops k 0 i inside in
       ⊎-elim (λ (gone : i < k). inl (at ∙ within-gone R drops k 0 i gone ∙ omega (arith, next-step 0 (getD drops i 0))))
       (λ (left : k ≤ i). inr (at ∙ within-left R drops k 0 i left ∙ omega arith))
       (below-or-from i k)
 
   -- No row stands above where the ray began.
-  ray-below : (k steps : ℕ) (now : List ℕ) → OnRay (sheetOf words) ask R drops k steps now → Below (rowCount words) now R
+  ray-below : (k steps : ℕ) (now : List ℕ) → OnRay s ask R drops k steps now → Below (s .rows) now R
   ray-below k steps now on i inside =
       ⊎-elim (λ (gone : getD now i 0 ≡ getD R i 0 - getD drops i 0). omega arith) (λ (left : getD now i 0 ≡ getD R i 0). omega arith)
       (row-now k i now steps on inside)
 
   -- The bounds on the ray are in range.
-  ray-ready : (k steps : ℕ) (now : List ℕ) → OnRay (sheetOf words) ask R drops k steps now → Ready words now
+  ray-ready : (k steps : ℕ) (now : List ℕ) → OnRay s ask R drops k steps now → Ready s now
   ray-ready k steps now on =
-      ready-lower words ask regular R now ready (on .held) (λ i h. ray-below k steps now on i (rw sheet-rows at h))
+      ready-lower s ask regular R now ready (on .held) (λ i h. ray-below k steps now on i h)
 
   -- The next row's way down.
-  pub on-way : (k steps : ℕ) (now : List ℕ) → OnRay (sheetOf words) ask R drops k steps now → steps ≤ most → k < rowCount words
-      → OnWay words now drops k steps
+  pub on-way : (k steps : ℕ) (now : List ℕ) → OnRay s ask R drops k steps now → steps ≤ most → k < s .rows
+      → OnWay s now drops k steps
   on-way k steps now on fewer inside =
       record {
         ready = ray-ready k steps now on;
         inside = inside;
         drops-small = small;
         room = λ t h i here. has-room t i here h;
-        own = rw (ray-bound (sheetOf words) ask regular R drops k steps now on (rw sheet-rows inside))
+        own = rw (ray-bound s ask regular R drops k steps now on inside)
             (le-trans (add-le-add (mul-le-mul fewer (le-refl (getD drops k 0))) (le-refl _)) (roomy k inside));
       }
     where
-      has-room : (t i : ℕ) → i < rowCount words → t < steps → t * getD drops i 0 + (sheetOf words) .cost i ≤ getD now i 0
+      has-room : (t i : ℕ) → i < s .rows → t < steps → t * getD drops i 0 + s .cost i ≤ getD now i 0
       has-room t i here h =
           let more : (t + 1) * getD drops i 0 ≤ most * getD drops i 0 = mul-le-mul {n₂ = most} (omega arith) (le-refl (getD drops i 0)) in
           ⊎-elim (λ (gone : getD now i 0 ≡ getD R i 0 - getD drops i 0). omega (arith, roomy i here, next-step t (getD drops i 0)))
@@ -68,35 +67,35 @@ module _ (words : List ℕ) (ask : Ask) (regular : Regular (sheetOf words) ask) 
           (row-now k i now steps on here)
 
   -- A row that loses its drop ends the pass where it stands.
-  pub ray-lost : (k steps : ℕ) (now : List ℕ) → OnRay (sheetOf words) ask R drops k steps now → k < rowCount words
-      → Lowered words ask R now (set drops k 0) 0
+  pub ray-lost : (k steps : ℕ) (now : List ℕ) → OnRay s ask R drops k steps now → k < s .rows
+      → Lowered s ask R now (set drops k 0) 0
   ray-lost k steps now on inside =
       record {
         below = ray-below k steps now on;
         drops-small = record { one-each = length-set drops k 0 ∙ small .one-each; each = λ i h. lost i h (ℕ-discrete i k) };
         room = λ i h. omega (arith, zero-mul (getD (set drops k 0) i 0));
-        one-each = on .held .one-each ∙ sheet-rows words;
-        ahead = rw (along-none (rowCount words) now (set drops k 0) (on .held .one-each ∙ sheet-rows words)) (on .held);
+        one-each = on .held .one-each;
+        ahead = rw (along-none (s .rows) now (set drops k 0) (on .held .one-each)) (on .held);
       }
     where
-      lost : (i : ℕ) → i < rowCount words → Dec (i ≡ k) → getD (set drops k 0) i 0 ≤ 1_000_000
+      lost : (i : ℕ) → i < s .rows → Dec (i ≡ k) → getD (set drops k 0) i 0 ≤ 1_000_000
       lost i h (yes here) = rw (here, getD-set-same drops k 0 0 (rw (small .one-each) inside)) zero-le
       lost i h (no other) = rw (getD-set-other drops k i 0 0 other) (small .each i h)
 
   -- Behind the last row the other steps may be made at once.
-  pub ray-done : (k steps : ℕ) (now : List ℕ) → Held (sheetOf words) ask R → OnRay (sheetOf words) ask R drops k steps now → steps ≤ most
-      → k ≡ rowCount words → (further : ℕ) → further ≡ steps - 1 → Lowered words ask R now drops further
+  pub ray-done : (k steps : ℕ) (now : List ℕ) → Held s ask R → OnRay s ask R drops k steps now → steps ≤ most
+      → k ≡ s .rows → (further : ℕ) → further ≡ steps - 1 → Lowered s ask R now drops further
   ray-done k steps now held on fewer all further is-rest =
       record {
         below = ray-below k steps now on;
         drops-small = small;
         room = has-room;
-        one-each = on .held .one-each ∙ sheet-rows words;
-        ahead = rw (is-rest, ← sheet-rows words)
-            (ray-ahead (sheetOf words) ask regular R drops k steps now (all ∙ sym (sheet-rows words)) held on);
+        one-each = on .held .one-each;
+        ahead = rw is-rest
+            (ray-ahead s ask regular R drops k steps now (all) held on);
       }
     where
-      has-room : (i : ℕ) → i < rowCount words → further * getD drops i 0 ≤ getD now i 0
+      has-room : (i : ℕ) → i < s .rows → further * getD drops i 0 ≤ getD now i 0
       has-room i here =
           ⊎-elim (λ (none : steps < 1). let nothing : further ≡ 0 = omega arith in rw (nothing, zero-mul) zero-le)
           (λ (some-steps : 1 ≤ steps).
@@ -128,39 +127,39 @@ ray-stayed s ask regular R drops same k steps now on inside unchanged none lower
     (rw (is-left, is-lower) (ray-skip s ask regular R drops k steps now on inside (rw unchanged at none)), omega arith, ap length is-lower)
 
 -- Bounds below bounds in range are at most a million.
-pub lowered-small : (words R : List ℕ) → Ready words R → (after : List ℕ) → Below (rowCount words) after R → (i : ℕ) → i < rowCount words
+pub lowered-small : (s : Sheet) (R : List ℕ) → Ready s R → (after : List ℕ) → Below (s .rows) after R → (i : ℕ) → i < s .rows
     → getD after i 0 ≤ 1_000_000
-lowered-small words R ready after below i inside =
-    let sized = sound-row words (ready .rows) i inside in
-    omega (arith, below i inside, bound-in-range words R ready i inside .1)
+lowered-small s R ready after below i inside =
+    let sized = row-sized s (ready .rows) i inside in
+    omega (arith, below i inside, ready .in-range i inside .1)
 
 -- The further steps of a pass, made.
-pub lowered-down : (words : List ℕ) (ask : Ask) (R after drops : List ℕ) (further : ℕ) → Lowered words ask R after drops further
-    → (count : ℕ) → count ≡ rowCount words → (final : List ℕ) → final ≡ along count after drops further → Descended words ask R final drops
-lowered-down words ask R after drops further lowered count counted final made =
-    let last : final ≡ along (rowCount words) after drops further = made ∙ ap (λ (n : ℕ). along n after drops further) counted in
+pub lowered-down : (s : Sheet) (ask : Ask) (R after drops : List ℕ) (further : ℕ) → Lowered s ask R after drops further
+    → (count : ℕ) → count ≡ s .rows → (final : List ℕ) → final ≡ along count after drops further → Descended s ask R final drops
+lowered-down s ask R after drops further lowered count counted final made =
+    let last : final ≡ along (s .rows) after drops further = made ∙ ap (λ (n : ℕ). along n after drops further) counted in
     record {
       held = rw last (lowered .ahead);
-      below = λ i h. rw last (le-trans (along-lower (rowCount words) after drops further i h) (lowered .below i h));
+      below = λ i h. rw last (le-trans (along-lower (s .rows) after drops further i h) (lowered .below i h));
       drops-small = lowered .drops-small;
     }
 
 -- Going down not at all, and going down further.
-pub descended-none : (words : List ℕ) (ask : Ask) (R drops : List ℕ) → Held (sheetOf words) ask R → Small (rowCount words) drops
-    → Descended words ask R R drops
-descended-none words ask R drops held small = record { held = held; below = λ i h. le-refl (getD R i 0); drops-small = small }
+pub descended-none : (s : Sheet) (ask : Ask) (R drops : List ℕ) → Held s ask R → Small (s .rows) drops
+    → Descended s ask R R drops
+descended-none s ask R drops held small = record { held = held; below = λ i h. le-refl (getD R i 0); drops-small = small }
 
-pub descended-more : (words : List ℕ) (ask : Ask) (R now drops lower left : List ℕ) → Descended words ask R now drops
-    → Descended words ask now lower left → Descended words ask R lower left
-descended-more words ask R now drops lower left before after =
+pub descended-more : (s : Sheet) (ask : Ask) (R now drops lower left : List ℕ) → Descended s ask R now drops
+    → Descended s ask now lower left → Descended s ask R lower left
+descended-more s ask R now drops lower left before after =
     record { held = after .held; below = λ i h. le-trans (after .below i h) (before .below i h); drops-small = after .drops-small }
 
 -- One bound a row, before and after.
-pub descended-length : (words : List ℕ) (ask : Ask) (R now drops : List ℕ) → Ready words R → Descended words ask R now drops → length now ≡ length R
-descended-length words ask R now drops ready descended = descended .held .one-each ∙ sheet-rows words ∙ sym (ready .one-each)
+pub descended-length : (s : Sheet) (ask : Ask) (R now drops : List ℕ) → Ready s R → Descended s ask R now drops → length now ≡ length R
+descended-length s ask R now drops ready descended = descended .held .one-each ∙ sym (ready .one-each)
 
--- What lies below bounds in range, and holds what bounds on the way hold, is in range.
-pub descended-ready : (words : List ℕ) (ask : Ask) → Regular (sheetOf words) ask → (R now drops : List ℕ) → Ready words R
-    → Descended words ask R now drops → Ready words now
-descended-ready words ask regular R now drops ready descended =
-    ready-lower words ask regular R now ready (descended .held) (λ i h. descended .below i (rw sheet-rows at h))
+-- What going down leaves is on the way.
+pub descended-running : (s : Sheet) (R now drops : List ℕ) (count m method : ℕ) → Running s R count m method
+    → Descended s (askOf s m method) R now drops → Running s now count m method
+descended-running s R now drops count m method running descended =
+    running-lower s R now count m method running (descended .held) (descended .below)

@@ -11,3 +11,4 @@ pub mod Ways
 pub mod Descent
 pub mod Refinement
 pub mod Demands
+pub mod Alike

@@ -4,12 +4,8 @@ use mathlib.Core.List.{List}
 use Prim.Native.Nat.{ℕ, zero, suc, _+_, _*_, _-_, _/_, _≤_, _<_, min}
 use native.Mathlib.Nat.{le-trans, mul-le-mul, mul-le-mul-left, mul-comm, div-lt-iff-lt-mul, div-mul-le-self, div-add-mod', zero-mul, suc-mul}
 use native.Mathlib.Omega.{arith}
-use lib.ListN.{getD}
 use Rattle.model.specs.Sheet.{Sheet}
 use Rattle.model.specs.Interference.{share, carried, work}
-use Rattle.rows.specs.Words.{rowCount, sheetOf}
-use Rattle.rows.proofs.Words.{sheet-rows}
-use Rattle.refinement.specs.Question.{Ready}
 use Rattle.refinement.specs.Inner.{termOf}
 
 -- The costs of the whole periods in a time are no more than the time.
@@ -30,11 +26,6 @@ pub not-passed : (m cost x sum : ℕ) → 1 ≤ m → cost ≤ x → sum < m * (
 not-passed m cost x sum positive from below =
     let few : sum / m < x - cost + 1 = div-lt-iff-lt-mul positive .1 (rw (mul-comm (x - cost + 1) m) below) in
     omega arith
-
--- Each bound that is ready lies from its row's cost to its deadline.
-pub bound-in-range : (words R : List ℕ) → Ready words R → (i : ℕ) → i < rowCount words
-    → ((sheetOf words) .cost i ≤ getD R i 0) × (getD R i 0 ≤ (sheetOf words) .deadline i)
-bound-in-range words R ready i h = ready .in-range i (rw sheet-rows h)
 
 -- A row that has its cost does some work in any time, and so in any window where its bound is no smaller.
 pub carried-positive : (c t y : ℕ) → 1 ≤ c → 1 ≤ y → 1 ≤ carried c t y

@@ -11,9 +11,7 @@ use Rattle.laws.proofs.Sum.{total-same, total-within, unless-here, unless-other
 use Rattle.laws.proofs.Fill.{listed-length, listed-at}
 use Rattle.model.specs.Sheet.{Sheet}
 use Rattle.model.specs.Interference.{shareOf, workOf, others, bclTerm, bclValue, rtaTerm, rtaRight}
-use Rattle.rows.specs.Words.{sheetOf}
-use Rattle.rows.proofs.Words.{sheet-rows}
-use Rattle.rows.proofs.Checks.{sound-row}
+use Rattle.model.proofs.Sheet.{row-sized, few-rows}
 use Rattle.refinement.specs.Inner.{shares, listedShare, termOf, Prepared}
 use Rattle.refinement.proofs.Limits.{term-within-cap}
 
@@ -73,58 +71,58 @@ module _ (s : Sheet) (k : ℕ) (R : List ℕ) where
   terms-sum x within =
       total-same (termOf s R (listedShare (shares s k R)) x (x - s .cost k + 1)) (unless k (rtaTerm s k R x)) (s .rows) (λ i h. term-at x i within h)
 
-module _ (words R taken : List ℕ) (row count m : ℕ) (prepared : Prepared words R taken row count m) where
+module _ (s : Sheet) (R taken : List ℕ) (row count m : ℕ) (prepared : Prepared s R taken row count m) where
   -- As many rows as the sheet has.
-  pub prepared-rows : count ≡ (sheetOf words) .rows
-  prepared-rows = prepared .counted ∙ sym (sheet-rows words)
+  pub prepared-rows : count ≡ s .rows
+  prepared-rows = prepared .counted
 
   pub prepared-length : length taken ≡ count
   prepared-length =
-      ap length (prepared .shared) ∙ shares-length (sheetOf words) row R ∙ sym prepared-rows
+      ap length (prepared .shared) ∙ shares-length s row R ∙ sym prepared-rows
 
   -- Each share is at most a million, since D − C + 1 is.
   pub prepared-small : (i : ℕ) → i < count → getD taken i 0 ≤ 1_000_000
   prepared-small i h =
-      let sized = sound-row words (prepared .ready .rows) row (prepared .inside) in
+      let sized = row-sized s (prepared .ready .rows) row (prepared .inside) in
       rw (prepared .shared)
-      (omega (arith, shares-capped (sheetOf words) row R i (rw (← prepared-rows) h)))
+      (omega (arith, shares-capped s row R i (rw (← prepared-rows) h)))
 
   -- Sums of them stay below 64 millions.
   pub shares-sum-small : total (λ i. getD taken i 0) count ≤ 64_000_000
   shares-sum-small =
-      omega (arith, total-within (λ i. getD taken i 0) 1_000_000 count prepared-small, prepared .counted, prepared .ready .rows .at-most)
+      omega (arith, total-within (λ i. getD taken i 0) 1_000_000 count prepared-small, prepared .counted, few-rows s (prepared .ready .rows))
 
-  pub terms-sum-small : (x cap : ℕ) → cap ≤ 1_000_000 → total (termOf (sheetOf words) R (listedShare taken) x cap) count ≤ 64_000_000
+  pub terms-sum-small : (x cap : ℕ) → cap ≤ 1_000_000 → total (termOf s R (listedShare taken) x cap) count ≤ 64_000_000
   terms-sum-small x cap small =
       omega (
         arith,
-        total-within (termOf (sheetOf words) R (listedShare taken) x cap) 1_000_000 count
-            (λ i h. le-trans (term-within-cap (sheetOf words) R (listedShare taken) x cap i) small),
+        total-within (termOf s R (listedShare taken) x cap) 1_000_000 count
+            (λ i h. le-trans (term-within-cap s R (listedShare taken) x cap i) small),
         prepared .counted,
-        prepared .ready .rows .at-most,
+        few-rows s (prepared .ready .rows),
       )
 
   -- BCL's value from their sum.
-  pub value-from-shares : (own sum : ℕ) → own ≡ (sheetOf words) .cost row → sum ≡ total (λ i. getD taken i 0) count
-      → own + sum / m ≡ bclValue (sheetOf words) m row R
+  pub value-from-shares : (own sum : ℕ) → own ≡ s .cost row → sum ≡ total (λ i. getD taken i 0) count
+      → own + sum / m ≡ bclValue s m row R
   unfolding bclValue
   value-from-shares own sum is-cost is-sum =
-      let all : sum ≡ others (sheetOf words) row (bclTerm (sheetOf words) row R) =
+      let all : sum ≡ others s row (bclTerm s row R) =
       is-sum
       ∙ ap (total (λ i. getD taken i 0)) prepared-rows
-      ∙ ap (λ (l : List ℕ). total (λ i. getD l i 0) ((sheetOf words) .rows)) (prepared .shared)
-      ∙ shares-sum (sheetOf words) row R in
+      ∙ ap (λ (l : List ℕ). total (λ i. getD l i 0) (s .rows)) (prepared .shared)
+      ∙ shares-sum s row R in
       cc
 
   -- RTA's right side from the terms.
-  pub right-from-terms : (own sum x : ℕ) → own ≡ (sheetOf words) .cost row → x ≤ (sheetOf words) .deadline row
-      → sum ≡ total (termOf (sheetOf words) R (listedShare taken) x (x - own + 1)) count → own + sum / m ≡ rtaRight (sheetOf words) m row R x
+  pub right-from-terms : (own sum x : ℕ) → own ≡ s .cost row → x ≤ s .deadline row
+      → sum ≡ total (termOf s R (listedShare taken) x (x - own + 1)) count → own + sum / m ≡ rtaRight s m row R x
   unfolding rtaRight
   right-from-terms own sum x is-cost within is-sum =
-      let all : sum ≡ others (sheetOf words) row (rtaTerm (sheetOf words) row R x) =
+      let all : sum ≡ others s row (rtaTerm s row R x) =
       is-sum
-      ∙ ap (total (termOf (sheetOf words) R (listedShare taken) x (x - own + 1))) prepared-rows
-      ∙ ap (λ (l : List ℕ). total (termOf (sheetOf words) R (listedShare l) x (x - own + 1)) ((sheetOf words) .rows)) (prepared .shared)
-      ∙ ap (λ (c : ℕ). total (termOf (sheetOf words) R (listedShare (shares (sheetOf words) row R)) x (x - c + 1)) ((sheetOf words) .rows)) is-cost
-      ∙ terms-sum (sheetOf words) row R x within in
+      ∙ ap (total (termOf s R (listedShare taken) x (x - own + 1))) prepared-rows
+      ∙ ap (λ (l : List ℕ). total (termOf s R (listedShare l) x (x - own + 1)) (s .rows)) (prepared .shared)
+      ∙ ap (λ (c : ℕ). total (termOf s R (listedShare (shares s row R)) x (x - c + 1)) (s .rows)) is-cost
+      ∙ terms-sum s row R x within in
       cc

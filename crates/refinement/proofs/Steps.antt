@@ -1,4 +1,4 @@
--- Passes on words, step by step: a row's answer gives its turn and its mark; a sweep stands where the definition's sweep stands, and tells
+-- Passes on s, step by step: a row's answer gives its turn and its mark; a sweep stands where the definition's sweep stands, and tells
 -- whether a bound has changed. Bounds on the way stay from cost to deadline.
 use mathlib.Core.Path.{_≡_, refl, sym, _∙_, ap}
 use mathlib.Core.Bool.{Bool, true, false}
@@ -27,12 +27,11 @@ use Rattle.model.specs.Inner.{Held}
 use Rattle.model.proofs.Refine.{Regular, Pass, turn-from-cost, one-turn-lowers, sweep-held, sweep-lowers, round-pass, sum-falls}
 use Rattle.model.proofs.Methods.{answer-regular}
 use Rattle.rows.specs.declared.Found.{Found}
-use Rattle.rows.specs.Words.{rowCount, sheetOf, foundOf, boundOr}
-use Rattle.rows.proofs.Words.{sheet-rows}
-use Rattle.rows.proofs.Checks.{sound-row}
+use Rattle.rows.specs.Words.{foundOf, boundOr}
+use Rattle.model.proofs.Sheet.{row-sized}
 use Rattle.refinement.specs.Refinement.{askOf}
 use Rattle.refinement.specs.Question.{Ready}
-use Rattle.refinement.specs.Inner.{isFound, boundsSum, AfterPass, Copied}
+use Rattle.refinement.specs.Inner.{isFound, Running, boundsSum, AfterPass, Copied}
 
 -- The bound of an answer, and whether there is one, as the code says it and as the definitions say it.
 bound-or-else : (o : Option ℕ) (deadline : ℕ) → boundOr (foundOf o) deadline ≡ orElse o deadline
@@ -57,21 +56,21 @@ pub mark-found : (ask : Ask) (k : ℕ) (R : List ℕ) (found : Found) → found 
 unfolding marked
 mark-found ask k R found is-found = rw is-found (found-is-some (ask k R))
 
--- The answer asked for by words, processors and method number is regular.
-pub ask-regular : (words : List ℕ) (processors method : ℕ) → Regular (sheetOf words) (askOf words processors method)
+-- The answer asked for by s, processors and method number is regular.
+pub ask-regular : (s : Sheet) (processors method : ℕ) → Regular s (askOf s processors method)
 unfolding askOf
-ask-regular words processors method = answer-regular (methodOf method) (sheetOf words) processors
+ask-regular s processors method = answer-regular (methodOf method) s processors
 
 -- Bounds that hold what bounds on the way hold, below bounds that are ready, are ready.
-pub ready-lower : (words : List ℕ) (ask : Ask) → Regular (sheetOf words) ask → (before R : List ℕ) → Ready words before
-    → Held (sheetOf words) ask R → Below ((sheetOf words) .rows) R before → Ready words R
-ready-lower words ask regular before R ready held below =
+pub ready-lower : (s : Sheet) (ask : Ask) → Regular s ask → (before R : List ℕ) → Ready s before
+    → Held s ask R → Below (s .rows) R before → Ready s R
+ready-lower s ask regular before R ready held below =
     record {
       rows = ready .rows;
-      one-each = held .one-each ∙ sheet-rows words;
+      one-each = held .one-each;
       in-range = λ k h.
-          let sized = sound-row words (ready .rows) k (rw (← sheet-rows words) h) in (
-            le-trans (omega (arith, sized .by-deadline, turn-from-cost (sheetOf words) ask regular k R)) (held .falls k h),
+          let sized = row-sized s (ready .rows) k h in (
+            le-trans (omega (arith, sized .by-deadline, turn-from-cost s ask regular k R)) (held .falls k h),
             le-trans (below k h) (ready .in-range k h .1),
           );
     }
@@ -98,11 +97,11 @@ sweep-start s ask before =
 
 -- After the last row it has done what a sweep does.
 pub sweep-end : (s : Sheet) (ask : Ask) (before R : List ℕ) (moved : Bool) (seen row : ℕ) → Sweeping s ask before R moved seen row
-    → row ≡ s .rows → AfterPass s ask (sweep s ask row) before R moved seen
+    → row ≡ s .rows → AfterPass s ask (sweep s ask (s .rows)) before R moved seen
 unfolding marks
 sweep-end s ask before R moved seen row sweeping done =
     record {
-      exact = sweeping .exact;
+      exact = sweeping .exact ∙ ap (λ (n : ℕ). sweep s ask n before) done;
       still = λ unmoved. (sweeping .still unmoved .0, sweeping .still unmoved .1 ∙ ap (bits (marked ask before)) done);
       lower = sweeping .lower;
     }
@@ -197,18 +196,29 @@ copy-end before R new moved row copying old-size new-size =
       differs = copying .differs;
     }
 
--- A pass leaves bounds that are ready and hold what bounds on the way hold.
-pub pass-on : (words : List ℕ) (ask : Ask) → Regular (sheetOf words) ask → (pass : List ℕ → List ℕ) → Pass (sheetOf words) ask pass
-    → (R R′ : List ℕ) → Ready words R → Held (sheetOf words) ask R → R′ ≡ pass R → Ready words R′ × Held (sheetOf words) ask R′
-pass-on words ask regular pass is-pass R R′ ready held passed =
-    let kept : Held (sheetOf words) ask R′ = rw passed (is-pass .keeps R held) in
-    (ready-lower words ask regular R R′ ready kept (rw passed (is-pass .lowers R held)), kept)
+-- Bounds below bounds on the way, that hold what those hold, are on the way.
+pub running-lower : (s : Sheet) (R R′ : List ℕ) (count m method : ℕ) → Running s R count m method → Held s (askOf s m method) R′ → Below (s .rows) R′ R
+    → Running s R′ count m method
+running-lower s R R′ count m method running held below =
+    record {
+      ready = ready-lower s (askOf s m method) (ask-regular s m method) R R′ (running .ready) held below;
+      counted = running .counted;
+      some-processor = running .some-processor;
+      few = running .few;
+      held = held;
+    }
+
+-- So is what a pass leaves.
+pub pass-on : (s : Sheet) (R R′ : List ℕ) (count m method : ℕ) (pass : List ℕ → List ℕ) → Pass s (askOf s m method) pass
+    → Running s R count m method → R′ ≡ pass R → Running s R′ count m method
+pass-on s R R′ count m method pass is-pass running passed =
+    running-lower s R R′ count m method running (rw passed (is-pass .keeps R (running .held))) (rw passed (is-pass .lowers R (running .held)))
 
 -- Lower bounds have no larger sum.
-pub sum-lower : (words R R′ : List ℕ) → Below (rowCount words) R′ R → boundsSum (sheetOf words) R′ ≤ boundsSum (sheetOf words) R
+pub sum-lower : (s : Sheet) (R R′ : List ℕ) → Below (s .rows) R′ R → boundsSum s R′ ≤ boundsSum s R
 unfolding boundsSum
-sum-lower words R R′ below =
-    total-mono (λ k. getD R′ k 0) (λ k. getD R k 0) ((sheetOf words) .rows) (λ i h. below i (rw sheet-rows at h))
+sum-lower s R R′ below =
+    total-mono (λ k. getD R′ k 0) (λ k. getD R k 0) (s .rows) (λ i h. below i h)
 
 -- A round, copied back, has done what a pass does.
 pub round-done : (s : Sheet) (ask : Ask) → Regular s ask → (R R′ new : List ℕ) (moved : Bool) (seen : ℕ) → Held s ask R

@@ -20,8 +20,6 @@ use Rattle.model.specs.Refine.{turn}
 use Rattle.model.specs.Inner.{along, Falls}
 use Rattle.model.proofs.Answer.{method-zero, method-other, answer-fixed, answer-within, rta-below}
 use Rattle.model.proofs.Ray.{next-step, within}
-use Rattle.rows.specs.Words.{rowCount, sheetOf}
-use Rattle.rows.proofs.Words.{sheet-rows}
 use Rattle.refinement.specs.Inner.Ray.{termBy, capBy, stepTo, termAlong, capAlong, addedAlong, sumAlong, Lies, OnWay, Aimed, SmallLine, SumLine, StaysBelow, Reaches}
 use Rattle.refinement.specs.Refinement.{askOf}
 use Rattle.refinement.proofs.Limits.{not-passed}
@@ -174,15 +172,15 @@ summed-all method s R drops k most n value slope limit counted few summed =
       small = omega (arith, summed .small);
     }
 
-module _ (words R drops : List ℕ) (row most : ℕ) (way : OnWay words R drops row most) where
+module _ (s : Sheet) (R drops : List ℕ) (row most : ℕ) (way : OnWay s R drops row most) where
   -- Every step asked for leads no lower than the cost.
-  pub own-step : (t : ℕ) → t < most → (t + 1) * getD drops row 0 + (sheetOf words) .cost row ≤ getD R row 0
+  pub own-step : (t : ℕ) → t < most → (t + 1) * getD drops row 0 + s .cost row ≤ getD R row 0
   own-step t h =
       let fewer : (t + 1) * getD drops row 0 ≤ most * getD drops row 0 = mul-le-mul {n₂ = most} (omega arith) (le-refl (getD drops row 0)) in
       omega (arith, way .own)
 
   -- Step t leads t drops below the first.
-  pub step-at : (window first fall : ℕ) → Aimed (sheetOf words) R drops row window first fall → (t : ℕ) → t < most
+  pub step-at : (window first fall : ℕ) → Aimed s R drops row window first fall → (t : ℕ) → t < most
       → stepTo R drops row t + t * fall ≡ first
   unfolding stepTo
   step-at window first fall aim t h =
@@ -190,37 +188,37 @@ module _ (words R drops : List ℕ) (row most : ℕ) (way : OnWay words R drops 
       omega (arith, own-step t h, aim .by-bound, aim .by-drop, next-step t (getD drops row 0))
 
   -- A row's time along the ray shrinks by both drops.
-  pub time-at : (window first fall : ℕ) → Aimed (sheetOf words) R drops row window first fall → (t i : ℕ) → t < most → i < rowCount words
-      → stepTo R drops row t + (getD R i 0 - t * getD drops i 0) - (sheetOf words) .cost i
-      ≡ first + getD R i 0 - (sheetOf words) .cost i - t * (fall + getD drops i 0)
+  pub time-at : (window first fall : ℕ) → Aimed s R drops row window first fall → (t i : ℕ) → t < most → i < s .rows
+      → stepTo R drops row t + (getD R i 0 - t * getD drops i 0) - s .cost i
+      ≡ first + getD R i 0 - s .cost i - t * (fall + getD drops i 0)
   time-at window first fall aim t i h inside =
       omega (arith, step-at window first fall aim t h, way .room t h i inside, mul-add t fall (getD drops i 0))
 
   -- And it has room for every step asked for.
-  pub time-room : (window first fall : ℕ) → Aimed (sheetOf words) R drops row window first fall → (i : ℕ) → i < rowCount words → (t : ℕ) → t < most
-      → t * (fall + getD drops i 0) ≤ first + getD R i 0 - (sheetOf words) .cost i
+  pub time-room : (window first fall : ℕ) → Aimed s R drops row window first fall → (i : ℕ) → i < s .rows → (t : ℕ) → t < most
+      → t * (fall + getD drops i 0) ≤ first + getD R i 0 - s .cost i
   time-room window first fall aim i inside t h =
       omega (arith, step-at window first fall aim t h, way .room t h i inside, mul-add t fall (getD drops i 0))
 
   -- The cap lies under a line: a level one for BCL, one that falls with the row for RTA.
-  pub cap-level : (method window first fall cost : ℕ) → Aimed (sheetOf words) R drops row window first fall → (sheetOf words) .cost row ≡ cost
-      → method ≡ 0 → Lies (capAlong (methodOf method) (sheetOf words) R drops row) most (window - cost + 1) 0 most
+  pub cap-level : (method window first fall cost : ℕ) → Aimed s R drops row window first fall → s .cost row ≡ cost
+      → method ≡ 0 → Lies (capAlong (methodOf method) s R drops row) most (window - cost + 1) 0 most
   cap-level method window first fall cost aim own zero =
       record {
-        under = λ t h. omega (arith, cap-stays (sheetOf words) R drops row method zero t, aim .by-deadline);
+        under = λ t h. omega (arith, cap-stays s R drops row method zero t, aim .by-deadline);
         fewer = le-refl most;
         gentle = omega arith;
       }
 
-  pub cap-with-row : (method window first fall cost : ℕ) → Aimed (sheetOf words) R drops row window first fall → (sheetOf words) .cost row ≡ cost
-      → (method ≡ 0 → ⊥) → Lies (capAlong (methodOf method) (sheetOf words) R drops row) most (first - cost + 1) fall most
+  pub cap-with-row : (method window first fall cost : ℕ) → Aimed s R drops row window first fall → s .cost row ≡ cost
+      → (method ≡ 0 → ⊥) → Lies (capAlong (methodOf method) s R drops row) most (first - cost + 1) fall most
   unfolding stepTo
   cap-with-row method window first fall cost aim own other =
       record {
         under = λ t h.
             omega (
               arith,
-              cap-falls (sheetOf words) R drops row method other t,
+              cap-falls s R drops row method other t,
               step-at window first fall aim t h,
               own-step t h,
               next-step t (getD drops row 0),
@@ -230,27 +228,27 @@ module _ (words R drops : List ℕ) (row most : ℕ) (way : OnWay words R drops 
       }
 
   -- What lies over the share and the cap lies over BCL's term; with the work, over RTA's.
-  pub bcl-lies : (method window first fall i value slope limit : ℕ) → Aimed (sheetOf words) R drops row window first fall → i < rowCount words
+  pub bcl-lies : (method window first fall i value slope limit : ℕ) → Aimed s R drops row window first fall → i < s .rows
       → method ≡ 0
-      → Lies (λ t. min (share ((sheetOf words) .cost i) ((sheetOf words) .deadline i) ((sheetOf words) .period i) (getD R i 0 - t * getD drops i 0) window)
-      (capAlong (methodOf method) (sheetOf words) R drops row t)) most value slope limit
-      → Lies (termAlong (methodOf method) (sheetOf words) R drops row i) most value slope limit
+      → Lies (λ t. min (share (s .cost i) (s .deadline i) (s .period i) (getD R i 0 - t * getD drops i 0) window)
+      (capAlong (methodOf method) s R drops row t)) most value slope limit
+      → Lies (termAlong (methodOf method) s R drops row i) most value slope limit
   bcl-lies method window first fall i value slope limit aim inside zero lies =
       lies-smaller _ _ most value slope limit
-      (λ t h. rw (bcl-along (sheetOf words) R drops row method i t (rw sheet-rows inside) zero, ← aim .by-deadline) (le-refl _)) lies
+      (λ t h. rw (bcl-along s R drops row method i t inside zero, ← aim .by-deadline) (le-refl _)) lies
 
-  pub rta-lies : (method window first fall i value slope limit : ℕ) → Aimed (sheetOf words) R drops row window first fall → i < rowCount words
+  pub rta-lies : (method window first fall i value slope limit : ℕ) → Aimed s R drops row window first fall → i < s .rows
       → (method ≡ 0 → ⊥)
-      → Lies (λ t. min (carried ((sheetOf words) .cost i) ((sheetOf words) .period i)
-      (first + getD R i 0 - (sheetOf words) .cost i - t * (fall + getD drops i 0)))
-      (min (share ((sheetOf words) .cost i) ((sheetOf words) .deadline i) ((sheetOf words) .period i) (getD R i 0 - t * getD drops i 0) window)
-      (capAlong (methodOf method) (sheetOf words) R drops row t))) most value slope limit
-      → Lies (termAlong (methodOf method) (sheetOf words) R drops row i) most value slope limit
+      → Lies (λ t. min (carried (s .cost i) (s .period i)
+      (first + getD R i 0 - s .cost i - t * (fall + getD drops i 0)))
+      (min (share (s .cost i) (s .deadline i) (s .period i) (getD R i 0 - t * getD drops i 0) window)
+      (capAlong (methodOf method) s R drops row t))) most value slope limit
+      → Lies (termAlong (methodOf method) s R drops row i) most value slope limit
   rta-lies method window first fall i value slope limit aim inside other lies =
       lies-smaller _ _ most value slope limit
       (λ t h.
       rw (
-        rta-along (sheetOf words) R drops row method i t (rw sheet-rows inside) other,
+        rta-along s R drops row method i t inside other,
         ← aim .by-deadline,
         time-at window first fall aim t i h inside,
       )
@@ -258,24 +256,23 @@ module _ (words R drops : List ℕ) (row most : ℕ) (way : OnWay words R drops 
       lies
 
   -- While the line stays below what the row has left, the row's turn allows the steps.
-  pub reaches : (m method window first fall cost value slope limit steps : ℕ) → 1 ≤ m → Aimed (sheetOf words) R drops row window first fall
-      → (sheetOf words) .cost row ≡ cost
-      → SumLine (sumAlong (methodOf method) (sheetOf words) R drops row) most value slope limit
+  pub reaches : (m method window first fall cost value slope limit steps : ℕ) → 1 ≤ m → Aimed s R drops row window first fall
+      → s .cost row ≡ cost
+      → SumLine (sumAlong (methodOf method) s R drops row) most value slope limit
       → StaysBelow value slope limit (m * fall) (m * (first - cost + 1)) steps
-      → Reaches (sheetOf words) (askOf words m method) R drops row most steps
+      → Reaches s (askOf s m method) R drops row most steps
   unfolding askOf sumAlong termAlong stepTo
   reaches m method window first fall cost value slope limit steps positive aim own line below =
       record { fewer = le-trans (below .fewer) (line .fewer); falls = falls }
     where
-      falls : Falls (sheetOf words) (askOf words m method) R drops row steps
+      falls : Falls s (askOf s m method) R drops row steps
       falls t h =
-          let s = sheetOf words in
           let early : t < limit = le-trans h (below .fewer) in
           let soon : t < most = le-trans early (line .fewer) in
           let step = step-at window first fall aim t soon in
           let low = own-step t soon in
           let from : s .cost row ≤ stepTo R drops row t = omega arith in
-          let range = way .ready .in-range row (rw sheet-rows (way .inside)) in
+          let range = way .ready .in-range row (way .inside) in
           let left : stepTo R drops row t - s .cost row + 1 + t * fall ≡ first - cost + 1 = omega arith in
           let kept = stays-below (sumAlong (methodOf method) s R drops row) value slope limit (m * fall) (m * (first - cost + 1)) (line .under)
           (below .begins (omega arith)) t early (below .lasts t h) in

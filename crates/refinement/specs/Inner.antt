@@ -11,10 +11,11 @@ use Rattle.laws.specs.Fill.{listed}
 use Rattle.model.specs.Sheet.{Sheet}
 use Rattle.model.specs.Interference.{share, workOf, bclTerm}
 use Rattle.model.specs.Refine.{Ask, marks}
+use Rattle.model.specs.Inner.{Held}
 use Rattle.rows.specs.declared.Found.{Found}
 use Rattle.rows.specs.declared.Found.the-variants.{At, Nowhere}
-use Rattle.rows.specs.Words.{rowCount, sheetOf}
 use Rattle.refinement.specs.Question.{Ready}
+use Rattle.refinement.specs.Refinement.{askOf}
 pub mod Kept
 pub mod Ray
 
@@ -40,12 +41,20 @@ unfoldable pub shareIn : Sheet → List ℕ → ℕ → ℕ → ℕ
 shareIn s R window i = share (s .cost i) (s .deadline i) (s .period i) (getD R i 0) window
 
 -- A row under question, with what the others take worked out.
-pub record Prepared (words R taken : List ℕ) (row count processors : ℕ) : Type 0 where
-  pub ready : Ready words R
-  pub inside : row < rowCount words
-  pub counted : count ≡ rowCount words
-  pub shared : taken ≡ shares (sheetOf words) row R
+pub record Prepared (s : Sheet) (R taken : List ℕ) (row count processors : ℕ) : Type 0 where
+  pub ready : Ready s R
+  pub inside : row < s .rows
+  pub counted : count ≡ s .rows
+  pub shared : taken ≡ shares s row R
   pub some-processor : 1 ≤ processors
+
+-- Bounds on the way to an engine's end, with as many rows counted as there are: ready, and holding what bounds on the way hold.
+pub record Running (s : Sheet) (R : List ℕ) (count processors method : ℕ) : Type 0 where
+  pub ready : Ready s R
+  pub counted : count ≡ s .rows
+  pub some-processor : 1 ≤ processors
+  pub few : processors ≤ 64
+  pub held : Held s (askOf s processors method) R
 
 -- Whether there is an answer.
 unfoldable pub isFound : Found → Bool

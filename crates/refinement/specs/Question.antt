@@ -1,20 +1,20 @@
--- The one-row question on words: its checks, its answer, and what that means.
+-- The one-row question: its checks, its answer, and what that means.
 use mathlib.Core.Path.{_≡_}
-use mathlib.Core.Bool.{Bool, _&&_}
-use mathlib.Core.List.{List}
+use mathlib.Core.Bool.{Bool, false, _&&_}
+use mathlib.Core.List.{List, [], _∷_}
 use mathlib.Core.Option.{Option, none, some}
 use Prim.Native.Nat.{ℕ, _≤_, _<_}
 use lib.Dec.{leb, ltb, eqb}
 use lib.ListN.{length, getD}
 use Rattle.laws.specs.Choice.{pick, unlessRefused}
 use Rattle.laws.specs.Bits.{every}
-use Rattle.model.specs.Sheet.{Sheet}
+use Rattle.model.specs.Sheet.{Sheet, Allowed}
 use Rattle.model.specs.Answer.{methodOf, answer, Answers}
 use Rattle.rows.specs.declared.Found.{Found}
 use Rattle.rows.specs.declared.Found.the-variants.{At, Nowhere}
 use Rattle.rows.specs.declared.Refusal.{Refusal}
-use Rattle.rows.specs.Words.{rowCount, sheetOf, foundOf}
-use Rattle.rows.specs.Checks.{refused, notRefused, processorsRefusal, methodRefusal, firstOf, wordsRefusal, SoundRows}
+use Rattle.rows.specs.Words.{sheetOf, foundOf}
+use Rattle.rows.specs.Checks.{refused, notRefused, processorsRefusal, methodRefusal, firstHeld, laidRefusal, notWhole}
 use Rattle.refinement.specs.declared.OneRow.{OneRow}
 
 -- A bound lies from its row's cost to its deadline.
@@ -29,18 +29,22 @@ questionAllowed s R row = ltb row (s .rows) && (eqb (length R) (s .rows) && ever
 unfoldable pub questionRefusal : Sheet → List ℕ → ℕ → Refusal
 questionRefusal s R row = pick (questionAllowed s R row) notRefused (refused 9 0)
 
--- The checks of the one-row question: 2, 3, 4, 5, 8, 9.
-unfoldable pub oneRowRefusal : List ℕ → ℕ → ℕ → List ℕ → ℕ → Refusal
-oneRowRefusal words processors method bounds row =
-    let first = wordsRefusal words (firstOf (processorsRefusal processors) (methodRefusal method)) in
-    unlessRefused (first .number) first (questionRefusal (sheetOf words) bounds row)
+-- The checks of the one-row question, on rows in whatever layout: 2, 3, 4, 5, 8, 9.
+unfoldable pub oneRowRefusalOf : Bool → Sheet → ℕ → ℕ → List ℕ → ℕ → Refusal
+oneRowRefusalOf broken s processors method bounds row =
+    let first = laidRefusal broken s (firstHeld (processorsRefusal processors ∷ methodRefusal method ∷ [])) in
+    unlessRefused (first .number) first (questionRefusal s bounds row)
 
--- What the entry answers: the refusal, or the one-row answer. Refused, it finds nothing.
-unfoldable pub oneRow : List ℕ → ℕ → ℕ → List ℕ → ℕ → OneRow
-oneRow words processors method bounds row =
-    let refusal = oneRowRefusal words processors method bounds row in
+-- What is answered to a refusal and a sheet: the refusal, or the one-row answer. Refused, it finds nothing.
+unfoldable pub oneRowOf : Refusal → Sheet → ℕ → ℕ → List ℕ → ℕ → OneRow
+oneRowOf refusal s processors method bounds row =
     unlessRefused (refusal .number) (record { refusal = refusal .number; place = refusal .place; answer = Nowhere })
-    (record { refusal = 0; place = 0; answer = foundOf (answer (methodOf method) (sheetOf words) processors row bounds) })
+    (record { refusal = 0; place = 0; answer = foundOf (answer (methodOf method) s processors row bounds) })
+
+-- The same of rows in a word list.
+abbrev pub oneRow : List ℕ → ℕ → ℕ → List ℕ → ℕ → OneRow
+oneRow words processors method bounds row =
+    oneRowOf (oneRowRefusalOf (notWhole words) (sheetOf words) processors method bounds row) (sheetOf words) processors method bounds row
 
 -- An answer as document 01 says it: a bound, or none.
 unfoldable pub answerOf : Found → Option ℕ
@@ -51,25 +55,30 @@ answerOf Nowhere = none
 abbrev pub InRange : Sheet → List ℕ → Type 0
 InRange s R = (i : ℕ) → i < s .rows → (s .cost i ≤ getD R i 0) × (getD R i 0 ≤ s .deadline i)
 
--- Words that were checked, with one bound in range for each row.
-pub record Ready (words : List ℕ) (R : List ℕ) : Type 0 where
-  pub rows : SoundRows words
-  pub one-each : length R ≡ rowCount words
-  pub in-range : InRange (sheetOf words) R
+-- A sheet of allowed sizes, with one bound in range for each row.
+pub record Ready (s : Sheet) (R : List ℕ) : Type 0 where
+  pub rows : Allowed s
+  pub one-each : length R ≡ s .rows
+  pub in-range : InRange s R
 
--- What a question that is not refused was given: sound rows with one bound in range for each, 1 to 64 processors, a method, and a row that is
--- there.
-pub record Askable (words : List ℕ) (processors method : ℕ) (bounds : List ℕ) (row : ℕ) : Type 0 where
-  pub ready : Ready words bounds
-  pub there : row < rowCount words
+-- What every question that is not refused was given: a layout that is not broken, a sheet of allowed sizes, 1 to 64 processors, a method.
+pub record Posed (broken : Bool) (s : Sheet) (processors method : ℕ) : Type 0 where
+  pub laid : broken ≡ false
+  pub sizes : Allowed s
   pub some-processor : 1 ≤ processors
   pub few : processors ≤ 64
   pub by-method : method ≤ 1
 
+-- What a one-row question was given beside: one bound in range for each row, and a row that is there.
+pub record Askable (broken : Bool) (s : Sheet) (processors method : ℕ) (bounds : List ℕ) (row : ℕ) : Type 0 where
+  pub posed : Posed broken s processors method
+  pub ready : Ready s bounds
+  pub there : row < s .rows
+
 -- What an answer to the question promises: the table's refusal exactly; where nothing is refused the least response time (or the formula's
 -- value) or that there is none; refused, every other number is 0.
-pub record OneRowPromise (words : List ℕ) (processors method : ℕ) (bounds : List ℕ) (row : ℕ) (r : OneRow) : Type 0 where
-  pub number : r .refusal ≡ (oneRowRefusal words processors method bounds row) .number
-  pub place : r .place ≡ (oneRowRefusal words processors method bounds row) .place
-  pub answered : r .refusal ≡ 0 → Answers (methodOf method) (sheetOf words) processors row bounds (answerOf (r .answer))
+pub record OneRowPromise (refusal : Refusal) (s : Sheet) (processors method : ℕ) (bounds : List ℕ) (row : ℕ) (r : OneRow) : Type 0 where
+  pub number : r .refusal ≡ refusal .number
+  pub place : r .place ≡ refusal .place
+  pub answered : r .refusal ≡ 0 → Answers (methodOf method) s processors row bounds (answerOf (r .answer))
   pub nothing : (r .refusal ≡ 0 → ⊥) → r .answer ≡ Nowhere

@@ -11,7 +11,9 @@ use Rattle.laws.specs.Fill.{atFront}
 use Rattle.laws.proofs.Choice.{not-refused, is-refused, one-answer}
 use Rattle.laws.proofs.Fill.{front-put}
 use Rattle.rows.specs.declared.Refusal.{Refusal}
-use Rattle.rows.specs.Words.{rowCount}
+use Rattle.model.specs.Sheet.{Sheet}
+use Rattle.model.proofs.Sheet.{few-rows}
+use Rattle.rows.specs.Words.{sheetOf}
 use Rattle.rows.specs.Checks.{refused, methodRefusal, roomRefusal}
 use Rattle.rows.proofs.Checks.{allowed-processors, enough-room, room-enough}
 use Rattle.grammar.specs.declared.Read.{Read}
@@ -23,7 +25,7 @@ use Rattle.grammar.specs.Meaning.{Readable}
 use Rattle.grammar.proofs.Refusals.{read-refused, words-length, write-accepted}
 use Rattle.grammar.proofs.Entries.{read-number, read-found, read-answers, read-leaves, written-number}
 use Rattle.report.specs.Lines.{resultHead, resultLine, resultLength, refusalLine}
-use Rattle.report.specs.Result.{resultOf, writeResult, resultAfter, mostWords, answerText, answerRefusal, answerSheet, answerAfter}
+use Rattle.report.specs.Result.{resultOf, writeResultOf, resultSpaceOf, writeResult, resultAfter, mostWords, answerText, answerRefusal, answerSheet, answerAfter}
 use Rattle.report.proofs.Text.{refusal-length}
 use Rattle.report.proofs.Entries.{room-decides, result-of-length}
 
@@ -80,16 +82,16 @@ module _ (bytes zeros : List ℕ) (whole : length zeros ≡ 192) (read : Read) (
   pub accepted-answer : (out : List ℕ)
       → (writeResult (take (3 * read .rows) (wordsAfter bytes zeros)) (read .processors) 1 (length out) ≡ answerSheet bytes (length out))
       × (resultAfter (take (3 * read .rows) (wordsAfter bytes zeros)) (read .processors) 1 out ≡ answerAfter bytes out)
-  unfolding answerText mostWords writeResult resultAfter
+  unfolding answerText mostWords writeResultOf resultSpaceOf
   accepted-answer out =
-      let words = wordsWritten bytes in
+      let s = sheetOf (wordsWritten bytes) in
       let m = processorsWritten bytes in
-      let only = room-decides words m 1 (length out) (facts .passed .sound) (allowed-processors m (facts .passed .allowed)) method-one in
-      let fits = fitted bytes (resultOf words m 1) out (resultLength (rowCount words))
-      (not-refused _ _ _ (sym (read-number bytes 192) ∙ sym (ap (λ (r : Read). r .refusal) is-read) ∙ accepted)) (result-of-length words m 1) in
+      let only = room-decides _ s m 1 (length out) (facts .passed .laid) (facts .passed .sizes) (allowed-processors m (facts .passed .allowed)) method-one in
+      let fits = fitted bytes (resultOf s m 1) out (resultLength (s .rows))
+      (not-refused _ _ _ (sym (read-number bytes 192) ∙ sym (ap (λ (r : Read). r .refusal) is-read) ∙ accepted)) (result-of-length s m 1) in
       rw (words-are, processors-are) (
-        ap (λ (r : Refusal). writeAnswer r (resultLength (rowCount words))) only ∙ fits .0,
-        ap (λ (r : Refusal). atFront (r .number) (resultOf words m 1) out) only ∙ fits .1,
+        ap (λ (r : Refusal). writeAnswer r (resultLength (s .rows))) only ∙ fits .0,
+        ap (λ (r : Refusal). atFront (r .number) (resultOf s m 1) out) only ∙ fits .1,
       )
 
 -- No answer is longer than the result sheet of 64 rows: a refused sheet's line is shorter, and a sheet that was read has no more rows.
@@ -99,10 +101,9 @@ longest-answer bytes = decided (ℕ-discrete ((readRefusal bytes 192) .number) 0
   where
     decided : Dec ((readRefusal bytes 192) .number ≡ 0) → length (answerText bytes) ≤ resultLength 64
     decided (yes zero) =
-        let words = wordsWritten bytes in
+        let s = sheetOf (wordsWritten bytes) in
         let facts = read-found bytes 192 (read-number bytes 192 ∙ zero) in
-        let few : rowCount words ≤ 64 = facts .passed .sound .at-most in
-        rw (not-refused _ _ _ zero, result-of-length words (processorsWritten bytes) 1) (omega arith)
+        rw (not-refused _ _ _ zero, result-of-length s (processorsWritten bytes) 1) (omega (arith, few-rows s (facts .passed .sizes)))
     decided (no one-holds) = rw (is-refused _ _ _ one-holds, refusal-length) (omega arith)
 
 -- An answer that fits is given: its whole text stands at the front of the output, and its length is returned.
@@ -125,13 +126,13 @@ answer-not-refused bytes room = (
 )
 
 -- Two results that the contracts allow are equal, and so are two written texts.
-pub write-result-unique : (words : List ℕ) (m method room : ℕ) (first second : Written) → first ≡ writeResult words m method room
-    → second ≡ writeResult words m method room → first ≡ second
-write-result-unique words m method room first second = one-answer
+pub write-result-unique : (refusal : Refusal) (s : Sheet) (first second : Written) → first ≡ writeResultOf refusal s → second ≡ writeResultOf refusal s
+    → first ≡ second
+write-result-unique refusal s first second = one-answer
 
-pub result-after-unique : (words : List ℕ) (m method : ℕ) (out first second : List ℕ) → first ≡ resultAfter words m method out
-    → second ≡ resultAfter words m method out → first ≡ second
-result-after-unique words m method out first second = one-answer
+pub result-after-unique : (refusal : Refusal) (s : Sheet) (m method : ℕ) (out first second : List ℕ) → first ≡ resultSpaceOf refusal s m method out
+    → second ≡ resultSpaceOf refusal s m method out → first ≡ second
+result-after-unique refusal s m method out first second = one-answer
 
 pub answer-unique : (bytes : List ℕ) (room : ℕ) (first second : Written) → first ≡ answerSheet bytes room → second ≡ answerSheet bytes room
     → first ≡ second

@@ -1,122 +1,105 @@
--- The entries' checks and answers: what number 0 says, and that a sheet read without refusal is refused later only for want of room.
+-- Writing a result sheet: what number 0 says, that allowed rows are refused only for want of room, and what stands in the sheet.
 use mathlib.Core.Path.{_≡_, refl, sym, _∙_, ap, ap₂}
+use mathlib.Core.Bool.{Bool, false}
 use mathlib.Core.List.{List, _++_}
 use mathlib.Core.Logic.{_↔_}
 use Prim.Native.Nat.{ℕ, _≤_}
 use native.Mathlib.Omega.{arith}
 use lib.ListN.{length, drop, length-append}
+use Rattle.laws.specs.Fill.{atFront}
 use Rattle.laws.proofs.Fill.{front-put}
-use Rattle.model.specs.Refine.{atOnce, marks}
-use Rattle.model.proofs.Sheet.{allowed-processors, processors-allowed}
+use Rattle.model.specs.Alike.{Alike}
+use Rattle.model.specs.Refine.{atOnce}
+use Rattle.model.specs.Sheet.{Sheet, Allowed}
+use Rattle.model.proofs.Sheet.{few-rows}
 use Rattle.rows.specs.declared.Refusal.{Refusal}
-use Rattle.rows.specs.Words.{rowCount, sheetOf}
-use Rattle.rows.specs.Checks.{refused, processorsRefusal, methodRefusal, roomRefusal, firstOf, wordsRefusal, SoundRows}
-use Rattle.rows.proofs.Words.{sheet-rows}
+use Rattle.rows.specs.Checks.{refused, processorsRefusal, methodRefusal, roomRefusal}
 use Rattle.rows.proofs.Checks as checks
 use Rattle.refinement.specs.declared.Refined.{Refined}
-use Rattle.refinement.specs.Refinement.{askOf, refineRefusal, finalBounds, refined, refinedWords}
-use Rattle.refinement.proofs.Refinement.{at-once-length, refine-answered, refinable}
+use Rattle.refinement.specs.Refinement.{refineRefusalOf, finalMarks, handed, refinedOf, refinedSpaceOf}
+use Rattle.refinement.proofs.Refinement.{at-once-length, handed-whole, refine-answered, refining, refinable}
+use Rattle.refinement.proofs.Demands.{at-once-alike}
+use Rattle.refinement.proofs.Alike.{final-marks-alike, handed-alike}
+use Rattle.grammar.specs.Sheets.{writeAnswer}
 use Rattle.grammar.proofs.Entries.{written-number}
-use Rattle.report.specs.Lines.{resultLength}
-use Rattle.report.specs.Result.{resultOf, resultRefusal, Reportable, writeResult, resultAfter}
-use Rattle.report.specs.Inner.{linesFrom}
-use Rattle.report.proofs.Text.{text-is, result-length}
-
--- The refusal, from what each call gave.
-pub chain : (words : List ℕ) (m method room : ℕ) {five need seven rest four whole : ℕ} {r : Refusal} → five ≡ methodRefusal method
-    → need ≡ resultLength (rowCount words) → seven ≡ roomRefusal room need → rest ≡ firstOf five seven → four ≡ processorsRefusal m
-    → whole ≡ firstOf four rest → r ≡ wordsRefusal words whole → r ≡ resultRefusal words m method room
-unfolding resultRefusal
-chain words m method room is-five is-need is-seven is-rest is-four is-whole is-refusal = cc
-
--- Number 0 gives every fact that the work needs.
-pub reportable : (words : List ℕ) (m method room : ℕ) → (resultRefusal words m method room) .number ≡ 0 → Reportable words m method room
-unfolding resultRefusal
-reportable words m method room zero =
-    let seven = roomRefusal room (resultLength (rowCount words)) in
-    let facts = checks.accepted words (firstOf (processorsRefusal m) (firstOf (methodRefusal method) seven)) zero in
-    let four = checks.first-of-zero (processorsRefusal m) (firstOf (methodRefusal method) seven) (facts .nothing-between) in
-    let five = checks.first-of-zero (methodRefusal method) seven (four .1) in
-    record {
-      rows = facts .rows;
-      some-processor = allowed-processors m (checks.processors-allowed m (four .0)) .0;
-      few = allowed-processors m (checks.processors-allowed m (four .0)) .1;
-      by-method = checks.method-within method (five .0);
-      enough = checks.room-enough room (resultLength (rowCount words)) (five .1);
-    }
-
--- Then refining into 64 words is not refused.
-pub refines : (words : List ℕ) (m method room : ℕ) → Reportable words m method room → (refineRefusal words m method 64) .number ≡ 0
-refines words m method room facts =
-    ap (λ (r : Refusal). r .number)
-    (refinable words m method 64
-    (record {
-      rows = facts .rows;
-      some-processor = facts .some-processor;
-      few = facts .few;
-      by-method = facts .by-method;
-      enough = facts .rows .at-most;
-    }))
-
--- Sound rows with processors and method allowed are refused only for want of room.
-pub room-decides : (words : List ℕ) (m method room : ℕ) → SoundRows words → processorsRefusal m ≡ 0 → methodRefusal method ≡ 0
-    → resultRefusal words m method room ≡ refused (roomRefusal room (resultLength (rowCount words))) 0
-unfolding resultRefusal
-room-decides words m method room sound four five =
-    ap (wordsRefusal words) (checks.next-decides _ _ four ∙ checks.next-decides _ _ five) ∙ checks.sound-between words _ sound
-
--- So writing is not refused exactly where everything asked for holds.
-pub result-not-refused : (words : List ℕ) (m method room : ℕ) → ((writeResult words m method room) .refusal ≡ 0) ↔ Reportable words m method room
-unfolding writeResult
-result-not-refused words m method room = (
-  λ zero. reportable words m method room (sym (written-number (resultRefusal words m method room) (resultLength (rowCount words))) ∙ zero),
-  λ facts.
-      written-number (resultRefusal words m method room) (resultLength (rowCount words))
-      ∙ ap (λ (r : Refusal). r .number)
-      (room-decides words m method room (facts .rows)
-      (checks.allowed-processors m (processors-allowed m (facts .some-processor) (facts .few))) (checks.within-method method (facts .by-method)))
-      ∙ checks.enough-room room (resultLength (rowCount words)) (facts .enough),
-)
+use Rattle.report.specs.Lines.{resultLength, resultBytes}
+use Rattle.report.specs.Result.{resultOf, Reportable, writeResultOf, resultSpaceOf}
+use Rattle.report.proofs.Text.{text-front, result-length}
 
 -- A result sheet has the length that its rows say.
-pub result-of-length : (words : List ℕ) (m method : ℕ) → length (resultOf words m method) ≡ resultLength (rowCount words)
+pub result-of-length : (s : Sheet) (m method : ℕ) → length (resultOf s m method) ≡ resultLength (s .rows)
 unfolding resultOf
-result-of-length words m method =
-    result-length (sheetOf words) (askOf words m method) (finalBounds atOnce words m method) ∙ ap resultLength (sheet-rows words)
+result-of-length s m method = result-length (s .rows) (finalMarks atOnce s m method) (handed atOnce s m method)
 
--- What it leaves where it is not refused: the sheet in front of what stood behind it.
-pub result-leaves : (words : List ℕ) (m method : ℕ) (out : List ℕ) → Reportable words m method (length out)
-    → resultAfter words m method out ≡ resultOf words m method ++ drop (length (resultOf words m method)) out
-unfolding resultAfter writeResult
-result-leaves words m method out facts =
-    let zero = sym (written-number (resultRefusal words m method (length out)) (resultLength (rowCount words))) ∙ result-not-refused words m method (length out) .1 facts in
-    sym (front-put ((resultRefusal words m method (length out)) .number) (resultOf words m method) out zero)
+module _ (broken : Bool) (s : Sheet) (m method room : ℕ) where
+  -- What is reported can be refined into 64 words.
+  pub refines : Reportable broken s m method room → (refineRefusalOf broken s m method 64 (s .rows)) .number ≡ 0
+  refines facts =
+      ap (λ (r : Refusal). r .number)
+      (refinable broken s m method 64 (s .rows) (record { posed = facts .posed; enough = few-rows s (facts .posed .sizes) }))
 
-module _ (words : List ℕ) (m method : ℕ) (out : List ℕ) (passed : (refineRefusal words m method (length out)) .number ≡ 0) (r : Refined)
-    (after : List ℕ) (answered : r ≡ refined atOnce words m method (length out)) (written : after ≡ refinedWords atOnce words m method out) where
-  -- What refining answered and wrote, where it was not refused.
-  marks-are : r .marks ≡ marks (sheetOf words) (askOf words m method) (atOnce (sheetOf words) (askOf words m method))
-  marks-are = ap (λ (x : Refined). x .marks) (answered ∙ sym (refine-answered atOnce words m method out passed _ (rowCount words) _ refl refl (at-once-length words m method) .0))
+  -- Allowed rows with processors and method allowed are refused only for want of room.
+  pub room-decides : broken ≡ false → Allowed s → processorsRefusal m ≡ 0 → methodRefusal method ≡ 0
+      → refineRefusalOf broken s m method room (resultLength (s .rows)) ≡ refused (roomRefusal room (resultLength (s .rows))) 0
+  unfolding refineRefusalOf
+  room-decides laid sizes four five =
+      checks.own-decides broken s _ laid sizes
+      ∙ ap (λ (n : ℕ). refused n 0)
+      (checks.others-pass (processorsRefusal m) _ four
+      ∙ checks.others-pass (methodRefusal method) _ five
+      ∙ sym (checks.held-last (roomRefusal room (resultLength (s .rows))) refl))
 
-  bounds-are : after ≡ atOnce (sheetOf words) (askOf words m method) ++ drop (rowCount words) out
-  bounds-are = written ∙ sym (refine-answered atOnce words m method out passed _ (rowCount words) _ refl refl (at-once-length words m method) .1)
-
-  -- There is a bound for each row.
-  pub bound-each : rowCount words ≤ length after
-  bound-each =
-      omega (
-        arith,
-        ap length bounds-are,
-        length-append (atOnce (sheetOf words) (askOf words m method)) (drop (rowCount words) out),
-        at-once-length words m method,
+  -- Writing is not refused exactly where everything asked for holds.
+  pub result-not-refused : ((writeResultOf (refineRefusalOf broken s m method room (resultLength (s .rows))) s) .refusal ≡ 0)
+      ↔ Reportable broken s m method room
+  unfolding writeResultOf
+  result-not-refused =
+      let need = resultLength (s .rows) in
+      let number = written-number (refineRefusalOf broken s m method room need) need in (
+        λ zero. refining broken s m method room need (sym number ∙ zero),
+        λ facts. number ∙ ap (λ (r : Refusal). r .number) (refinable broken s m method room need facts),
       )
 
+-- What it leaves where it is not refused: the sheet in front of what stood behind it.
+pub result-leaves : (refusal : Refusal) (s : Sheet) (m method : ℕ) (out : List ℕ) → refusal .number ≡ 0
+    → resultSpaceOf refusal s m method out ≡ resultOf s m method ++ drop (length (resultOf s m method)) out
+unfolding resultSpaceOf
+result-leaves refusal s m method out zero = sym (front-put (refusal .number) (resultOf s m method) out zero)
+
+module _ (refusal : Refusal) (s : Sheet) (m method : ℕ) (out : List ℕ) (passed : refusal .number ≡ 0) (r : Refined) (after : List ℕ)
+    (answered : r ≡ refinedOf atOnce refusal s m method) (written : after ≡ refinedSpaceOf atOnce refusal s m method out) where
+  -- One word is handed out for each row.
+  one-each : length (handed atOnce s m method) ≡ s .rows
+  one-each = ap length (sym (handed-whole atOnce s m method)) ∙ at-once-length s m method
+
+  -- What refining answered and wrote, where it was not refused.
+  marks-are : r .marks ≡ finalMarks atOnce s m method
+  marks-are = ap (λ (x : Refined). x .marks) (answered ∙ sym (refine-answered atOnce refusal s m method out passed _ (s .rows) _ refl refl one-each .0))
+
+  words-are : after ≡ handed atOnce s m method ++ drop (s .rows) out
+  words-are = written ∙ sym (refine-answered atOnce refusal s m method out passed _ (s .rows) _ refl refl one-each .1)
+
+  -- There is a word for each row.
+  pub word-each : s .rows ≤ length after
+  word-each = omega (arith, ap length words-are, length-append (handed atOnce s m method) (drop (s .rows) out), one-each)
+
   -- The lines from them are the result sheet.
-  pub refined-text : (rows : ℕ) → rows ≡ rowCount words → linesFrom (r .marks) after rows ≡ resultOf words m method
-  unfolding resultOf finalBounds
+  pub refined-text : (rows : ℕ) → rows ≡ s .rows → resultBytes rows (r .marks) after ≡ resultOf s m method
+  unfolding resultOf
   refined-text rows is-rows =
-      let s = sheetOf words in
-      let ask = askOf words m method in
-      ap (linesFrom (r .marks) after) (is-rows ∙ sym (sheet-rows words))
-      ∙ ap₂ (λ (n : ℕ) (l : List ℕ). linesFrom n l (s .rows)) marks-are bounds-are
-      ∙ text-is s ask (atOnce s ask) (drop (rowCount words) out) (at-once-length words m method ∙ sym (sheet-rows words))
+      ap (λ (n : ℕ). resultBytes n (r .marks) after) is-rows
+      ∙ ap₂ (resultBytes (s .rows)) marks-are words-are
+      ∙ text-front (s .rows) (finalMarks atOnce s m method) (handed atOnce s m method) (drop (s .rows) out) one-each
+
+-- An equal refusal and alike sheets are answered alike, and leave equal bytes.
+module _ (s t : Sheet) (alike : Alike s t) (refusal : Refusal) where
+  pub written-alike : writeResultOf refusal s ≡ writeResultOf refusal t
+  unfolding writeResultOf
+  written-alike = ap (λ (n : ℕ). writeAnswer refusal (resultLength n)) (alike .rows)
+
+  pub bytes-alike : (m method : ℕ) (out : List ℕ) → resultSpaceOf refusal s m method out ≡ resultSpaceOf refusal t m method out
+  unfolding resultSpaceOf resultOf
+  bytes-alike m method out =
+      ap (λ (l : List ℕ). atFront (refusal .number) l out)
+      (ap (λ (n : ℕ). resultBytes n (finalMarks atOnce s m method) (handed atOnce s m method)) (alike .rows)
+      ∙ ap₂ (resultBytes (t .rows)) (final-marks-alike s t alike m method atOnce at-once-alike) (handed-alike s t alike m method atOnce at-once-alike))

@@ -7,20 +7,21 @@ use native.Mathlib.Omega.{arith}
 use lib.ListN.{length, getD, length-append, List·getD-append}
 use lib.Seq.{getD-append-add}
 use Rattle.laws.specs.Fill.{joined}
-use Rattle.laws.specs.Bits.{bit}
+use Rattle.laws.specs.Bits.{bit, bitAt, isSet, every}
 use Rattle.laws.proofs.Fill.{joined-at}
 use Rattle.laws.proofs.Cuts.{getD-between}
-use Rattle.model.specs.Sheet.{Sheet}
-use Rattle.model.specs.Refine.{Ask, marked, accepted, atOnce}
+use Rattle.model.specs.Sheet.{Sheet, Allowed}
+use Rattle.model.specs.Refine.{Ask, marked, marks, atOnce}
+use Rattle.model.proofs.Sheet.{few-rows}
+use Rattle.model.proofs.Engines.{marks-say, accepted-by-marks}
 use Rattle.digits.specs.Digits.{number, digits}
 use Rattle.digits.proofs.Number.{digits-length, number-of-digits}
-use Rattle.rows.specs.Words.{sheetOf}
-use Rattle.rows.proofs.Words.{sheet-rows}
-use Rattle.refinement.specs.Refinement.{askOf, finalBounds}
+use Rattle.refinement.specs.Refinement.{askOf, finalBounds, finalMarks, handed}
+use Rattle.refinement.proofs.Refinement.{handed-whole}
 use Rattle.refinement.proofs.Demands.{final-small}
 use Rattle.report.specs.Lines.{resultHead, resultLine, lineText, resultFirstLine, resultRowLine, resultLineOf, resultBytes}
-use Rattle.report.specs.Result.{resultOf, Reportable, SaysBack}
-use Rattle.report.proofs.Text.{line-length, first-line-length}
+use Rattle.report.specs.Result.{resultOf, SaysBack}
+use Rattle.report.proofs.Text.{first-line-length, row-line-length}
 
 -- A line that stands at a place of longer bytes: its small number and its value are read back.
 module _ (bytes : List ℕ) (at kind small count value : ℕ)
@@ -50,43 +51,51 @@ bit-small : (b : Bool) → bit b < 16 ^ 2
 bit-small true = omega arith
 bit-small false = omega arith
 
-module _ (s : Sheet) (ask : Ask) (R : List ℕ) where
+module _ (rows marks : ℕ) (words : List ℕ) where
+  -- Line one as it stands in front.
+  abbrev front : List ℕ
+  front = resultFirstLine (bit (every (isSet marks) rows)) rows
+
   -- Where line one and the line of row k stand.
-  in-first-line : (i : ℕ) → i < 7 → getD (resultBytes s ask R) (0 + i) 0 ≡ getD (resultFirstLine (bit (accepted s ask R)) (s .rows)) i 0
+  in-first-line : (i : ℕ) → i < 7 → getD (resultBytes rows marks words) (0 + i) 0 ≡ getD front i 0
   unfolding resultBytes resultHead
   in-first-line i inside =
-      ap (λ (x : ℕ). getD (resultFirstLine (bit (accepted s ask R)) (s .rows) ++ joined (resultLineOf ask R) (s .rows)) x 0) (omega arith)
-      ∙ List·getD-append (resultFirstLine (bit (accepted s ask R)) (s .rows)) (joined (resultLineOf ask R) (s .rows)) 0 i
-      (rw (first-line-length (bit (accepted s ask R)) (s .rows)) inside)
+      ap (λ (x : ℕ). getD (front ++ joined (resultLineOf marks words) rows) x 0) (omega arith)
+      ∙ List·getD-append front (joined (resultLineOf marks words) rows) 0 i (rw (first-line-length (bit (every (isSet marks) rows)) rows) inside)
 
-  in-row : (k i : ℕ) → k < s .rows → i < 11
-      → getD (resultBytes s ask R) (resultHead + k * resultLine + i) 0 ≡ getD (resultLineOf ask R k) i 0
-  unfolding resultBytes resultHead resultLine resultLineOf resultRowLine
+  in-row : (k i : ℕ) → k < rows → i < 11
+      → getD (resultBytes rows marks words) (resultHead + k * resultLine + i) 0 ≡ getD (resultLineOf marks words k) i 0
+  unfolding resultBytes resultHead resultLine
   in-row k i here inside =
-      ap (λ (x : ℕ). getD (resultBytes s ask R) x 0)
-      (omega (arith, first-line-length (bit (accepted s ask R)) (s .rows)))
-      ∙ getD-append-add (resultFirstLine (bit (accepted s ask R)) (s .rows)) (joined (resultLineOf ask R) (s .rows)) (k * 11 + i) 0
-      ∙ joined-at (resultLineOf ask R) 11 (s .rows) k i (λ j h. line-length 0x12 (bit (marked ask R j)) 6 (getD R j 0)) here inside
+      ap (λ (x : ℕ). getD (resultBytes rows marks words) x 0) (omega (arith, first-line-length (bit (every (isSet marks) rows)) rows))
+      ∙ getD-append-add front (joined (resultLineOf marks words) rows) (k * 11 + i) 0
+      ∙ joined-at (resultLineOf marks words) 11 rows k i (λ j h. row-line-length marks words j) here inside
 
-  -- What it says is what was put in it.
-  pub result-back : s .rows ≤ 64 → ((k : ℕ) → k < s .rows → getD R k 0 ≤ 1_000_000) → SaysBack s ask R (resultBytes s ask R)
-  unfolding resultFirstLine resultLineOf resultRowLine
-  result-back few small =
-      record {
-        accepted-back = small-back (resultBytes s ask R) 0 0x11 (bit (accepted s ask R)) 2 (s .rows) in-first-line (bit-small (accepted s ask R));
-        count-back = value-back (resultBytes s ask R) 0 0x11 (bit (accepted s ask R)) 2 (s .rows) in-first-line (omega arith);
-        mark-back = λ k h.
-            small-back (resultBytes s ask R) (resultHead + k * resultLine) 0x12 (bit (marked ask R k)) 6 (getD R k 0) (λ i j. in-row k i h j)
-            (bit-small (marked ask R k));
-        bound-back = λ k h.
-            value-back (resultBytes s ask R) (resultHead + k * resultLine) 0x12 (bit (marked ask R k)) 6 (getD R k 0) (λ i j. in-row k i h j)
-            (omega (arith, small k h));
-      }
+-- What it says is what was put in it.
+pub result-back : (s : Sheet) (ask : Ask) (R words : List ℕ) → s .rows ≤ 64 → ((k : ℕ) → k < s .rows → getD words k 0 ≤ 1_000_000)
+    → SaysBack s ask R words (resultBytes (s .rows) (marks s ask R) words)
+unfolding resultFirstLine resultLineOf resultRowLine
+result-back s ask R words few small =
+    let bytes = resultBytes (s .rows) (marks s ask R) words in
+    let all = every (isSet (marks s ask R)) (s .rows) in
+    let first = in-first-line (s .rows) (marks s ask R) words in
+    let row = in-row (s .rows) (marks s ask R) words in
+    let mark : (k : ℕ) → k < s .rows → bitAt (marks s ask R) k ≡ bit (marked ask R k) = marks-say s ask R .each in
+    record {
+      accepted-back = small-back bytes 0 0x11 (bit all) 2 (s .rows) first (bit-small all) ∙ ap bit (accepted-by-marks s ask R);
+      count-back = value-back bytes 0 0x11 (bit all) 2 (s .rows) first (omega arith);
+      mark-back = λ k h.
+          small-back bytes (resultHead + k * resultLine) 0x12 (bitAt (marks s ask R) k) 6 (getD words k 0) (λ i j. row k i h j)
+          (rw (mark k h) (bit-small (marked ask R k))) ∙ mark k h;
+      bound-back = λ k h.
+          value-back bytes (resultHead + k * resultLine) 0x12 (bitAt (marks s ask R) k) 6 (getD words k 0) (λ i j. row k i h j)
+          (omega (arith, small k h));
+    }
 
 -- Of the sheet that the entry writes.
-pub written-back : (words : List ℕ) (m method room : ℕ) → Reportable words m method room
-    → SaysBack (sheetOf words) (askOf words m method) (finalBounds atOnce words m method) (resultOf words m method)
-unfolding resultOf
-written-back words m method room facts =
-    result-back (sheetOf words) (askOf words m method) (finalBounds atOnce words m method) (rw sheet-rows (facts .rows .at-most))
-    (λ k h. final-small words m method (facts .rows) k (rw sheet-rows at h))
+pub written-back : (s : Sheet) (m method : ℕ) → Allowed s
+    → SaysBack s (askOf s m method) (finalBounds atOnce s m method) (handed atOnce s m method) (resultOf s m method)
+unfolding resultOf finalMarks
+written-back s m method sizes =
+    result-back s (askOf s m method) (finalBounds atOnce s m method) (handed atOnce s m method) (few-rows s sizes)
+    (λ k h. rw (← handed-whole atOnce s m method) (final-small s m method sizes k h))

@@ -1,22 +1,15 @@
--- The lines of a result sheet: how long they are, and that the marks as one number say what the definitions say.
-use mathlib.Core.Path.{_≡_, refl, _∙_, ap, ap₂}
-use mathlib.Core.Bool.{Bool, true, false}
+-- The lines of a result sheet: how long they are, and which words they read.
+use mathlib.Core.Path.{_≡_, _∙_, ap}
 use mathlib.Core.List.{List, _++_}
 use Prim.Native.Nat.{ℕ, _+_, _*_}
 use native.Mathlib.Omega.{arith}
-use lib.Dec.{eqb}
 use lib.ListN.{length, getD, length-append, List·getD-append}
 use Rattle.laws.specs.Fill.{joined}
-use Rattle.laws.specs.Bits.{bit, bitAt}
+use Rattle.laws.specs.Bits.{bit, bitAt, isSet, every}
 use Rattle.laws.proofs.Fill.{joined-length}
 use Rattle.laws.proofs.Cuts.{joined-same}
-use Rattle.laws.proofs.Bits.{every-same}
-use Rattle.model.specs.Sheet.{Sheet}
-use Rattle.model.specs.Refine.{Ask, marked, marks, accepted}
-use Rattle.model.proofs.Engines.{marks-say}
 use Rattle.digits.proofs.Number.{digits-length}
 use Rattle.report.specs.Lines.{resultHead, resultLine, resultLength, lineText, resultFirstLine, resultRowLine, resultLineOf, resultBytes, refusalLine}
-use Rattle.report.specs.Inner.{lineFrom, isSet, linesFrom}
 
 -- A line has five bytes and its number's digits.
 pub line-length : (kind small count value : ℕ) → length (lineText kind small count value) ≡ 5 + count
@@ -27,38 +20,28 @@ pub first-line-length : (accepted rows : ℕ) → length (resultFirstLine accept
 unfolding resultFirstLine resultHead
 first-line-length accepted rows = line-length 0x11 accepted 2 rows
 
-pub row-line-length : (marks : ℕ) (bounds : List ℕ) (k : ℕ) → length (lineFrom marks bounds k) ≡ resultLine
-unfolding lineFrom resultRowLine resultLine
-row-line-length marks bounds k = line-length 0x12 (bitAt marks k) 6 (getD bounds k 0)
+pub row-line-length : (marks : ℕ) (words : List ℕ) (k : ℕ) → length (resultLineOf marks words k) ≡ resultLine
+unfolding resultLineOf resultRowLine resultLine
+row-line-length marks words k = line-length 0x12 (bitAt marks k) 6 (getD words k 0)
 
 -- So many lines of rows have 11 bytes each.
-pub rows-length : (marks : ℕ) (bounds : List ℕ) (n : ℕ) → length (joined (lineFrom marks bounds) n) ≡ resultLine * n
+pub rows-length : (marks : ℕ) (words : List ℕ) (n : ℕ) → length (joined (resultLineOf marks words) n) ≡ resultLine * n
 unfolding resultLine
-rows-length marks bounds n = joined-length (lineFrom marks bounds) resultLine n (λ j h. row-line-length marks bounds j) ∙ omega arith
+rows-length marks words n = joined-length (resultLineOf marks words) resultLine n (λ j h. row-line-length marks words j) ∙ omega arith
 
--- A bit is set exactly if the row is marked.
-set-is : (b : Bool) → eqb (bit b) 1 ≡ b
-set-is true = refl
-set-is false = refl
-
--- The lines from marks as one number and from bounds in front of anything are the result sheet.
-pub text-is : (s : Sheet) (ask : Ask) (R rest : List ℕ) → length R ≡ s .rows
-    → linesFrom (marks s ask R) (R ++ rest) (s .rows) ≡ resultBytes s ask R
-unfolding linesFrom resultBytes accepted lineFrom resultLineOf isSet
-text-is s ask R rest size =
-    ap₂ (λ (b : Bool) (l : List ℕ). resultFirstLine (bit b) (s .rows) ++ l)
-    (every-same _ _ (s .rows) (λ k h. ap (λ (x : ℕ). eqb x 1) (marks-say s ask R .each k h) ∙ set-is (marked ask R k)))
-    (joined-same _ _ (s .rows)
-    (λ k h.
-    ap₂ resultRowLine (marks-say s ask R .each k h) (List·getD-append R rest 0 k (rw size h))))
+-- Only the first words count, as many as there are rows.
+pub text-front : (rows marks : ℕ) (words rest : List ℕ) → length words ≡ rows → resultBytes rows marks (words ++ rest) ≡ resultBytes rows marks words
+unfolding resultBytes resultLineOf
+text-front rows marks words rest size =
+    ap (λ (l : List ℕ). resultFirstLine (bit (every (isSet marks) rows)) rows ++ l)
+    (joined-same _ _ rows (λ k h. ap (resultRowLine (bitAt marks k)) (List·getD-append words rest 0 k (rw size h))))
 
 -- A result sheet is as long as its rows say.
-pub result-length : (s : Sheet) (ask : Ask) (R : List ℕ) → length (resultBytes s ask R) ≡ resultLength (s .rows)
-unfolding resultBytes resultLength resultLineOf resultRowLine resultLine
-result-length s ask R =
-    length-append (resultFirstLine (bit (accepted s ask R)) (s .rows)) (joined (resultLineOf ask R) (s .rows))
-    ∙ rw (first-line-length (bit (accepted s ask R)) (s .rows), joined-length (resultLineOf ask R) 11 (s .rows) (λ j h. line-length 0x12 _ 6 _))
-    (omega arith)
+pub result-length : (rows marks : ℕ) (words : List ℕ) → length (resultBytes rows marks words) ≡ resultLength rows
+unfolding resultBytes resultLength
+result-length rows marks words =
+    length-append (resultFirstLine (bit (every (isSet marks) rows)) rows) (joined (resultLineOf marks words) rows)
+    ∙ rw (first-line-length (bit (every (isSet marks) rows)) rows, rows-length marks words rows)
 
 -- The line of a refused sheet has 9 bytes.
 pub refusal-length : (number place : ℕ) → length (refusalLine number place) ≡ 9

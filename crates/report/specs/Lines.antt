@@ -3,9 +3,7 @@ use mathlib.Core.List.{List, [], _∷_, _++_}
 use Prim.Native.Nat.{ℕ, _+_, _*_}
 use lib.ListN.{getD}
 use Rattle.laws.specs.Fill.{joined}
-use Rattle.laws.specs.Bits.{bit}
-use Rattle.model.specs.Sheet.{Sheet}
-use Rattle.model.specs.Refine.{Ask, marked, accepted}
+use Rattle.laws.specs.Bits.{bit, bitAt, isSet, every}
 use Rattle.digits.specs.Digits.{digits}
 
 -- The length of line one: `11`, accepted (2 digits), rows (2 digits), one byte 0A.
@@ -32,13 +30,13 @@ resultFirstLine accepted rows = lineText 0x11 accepted 2 rows
 unfoldable pub resultRowLine : ℕ → ℕ → List ℕ
 resultRowLine marked bound = lineText 0x12 marked 6 bound
 
--- The line of row k under final bounds.
-unfoldable pub resultLineOf : Ask → List ℕ → ℕ → List ℕ
-resultLineOf ask R k = resultRowLine (bit (marked ask R k)) (getD R k 0)
+-- The line of row k, from the marks and from the words handed out.
+unfoldable pub resultLineOf : ℕ → List ℕ → ℕ → List ℕ
+resultLineOf marks words k = resultRowLine (bitAt marks k) (getD words k 0)
 
--- A whole result sheet under final bounds: line one, then one line a row.
-unfoldable pub resultBytes : Sheet → Ask → List ℕ → List ℕ
-resultBytes s ask R = resultFirstLine (bit (accepted s ask R)) (s .rows) ++ joined (resultLineOf ask R) (s .rows)
+-- A whole result sheet of so many rows: line one, in which it is accepted when every row is marked, then one line a row.
+unfoldable pub resultBytes : ℕ → ℕ → List ℕ → List ℕ
+resultBytes rows marks words = resultFirstLine (bit (every (isSet marks) rows)) rows ++ joined (resultLineOf marks words) rows
 
 -- Where the program refuses it writes one line: `1F`, number (2 digits), place (4 digits), 0A.
 unfoldable pub refusalLine : ℕ → ℕ → List ℕ

@@ -1,7 +1,8 @@
 -- The result sheet of rows, and the whole answer to a sheet's bytes: what is returned and what is left in lent space, refused or not.
 use mathlib.Core.Path.{_≡_}
+use mathlib.Core.Bool.{Bool}
 use mathlib.Core.List.{List}
-use Prim.Native.Nat.{ℕ, _≤_, _+_, _*_, _<_}
+use Prim.Native.Nat.{ℕ, _+_, _*_, _<_}
 use lib.ListN.{length, getD}
 use Rattle.laws.specs.Choice.{unlessRefused}
 use Rattle.laws.specs.Fill.{atFront}
@@ -10,48 +11,48 @@ use Rattle.model.specs.Refine.{atOnce, Ask, marked, accepted}
 use Rattle.model.specs.Sheet.{Sheet}
 use Rattle.digits.specs.Digits.{number}
 use Rattle.rows.specs.declared.Refusal.{Refusal}
-use Rattle.rows.specs.Words.{rowCount, sheetOf}
-use Rattle.rows.specs.Checks.{refused, processorsRefusal, methodRefusal, roomRefusal, firstOf, wordsRefusal, SoundRows}
-use Rattle.refinement.specs.Refinement.{askOf, finalBounds}
+use Rattle.rows.specs.Words.{sheetOf}
+use Rattle.rows.specs.Checks.{refused, roomRefusal, notWhole}
+use Rattle.refinement.specs.Refinement.{refineRefusalOf, finalMarks, handed, Refinable}
 use Rattle.grammar.specs.declared.Written.{Written}
 use Rattle.grammar.specs.Grammar.{processorsWritten}
 use Rattle.grammar.specs.Lines.{wordsWritten}
 use Rattle.grammar.specs.Sheets.{readRefusal, writeAnswer}
 use Rattle.report.specs.Lines.{resultLength, resultBytes, refusalLine, resultHead, resultLine}
 
--- The result sheet of rows: marks and bounds are worked out by the refinement, at once.
-unfoldable pub resultOf : List ℕ → ℕ → ℕ → List ℕ
-resultOf words processors method =
-    resultBytes (sheetOf words) (askOf words processors method) (finalBounds atOnce words processors method)
+-- The result sheet of a sheet: marks and words are worked out by the refinement, at once.
+unfoldable pub resultOf : Sheet → ℕ → ℕ → List ℕ
+resultOf s processors method = resultBytes (s .rows) (finalMarks atOnce s processors method) (handed atOnce s processors method)
 
--- The checks of writing it: 2, 3, 4, 5, 7 (7 + 11n bytes), 8.
-unfoldable pub resultRefusal : List ℕ → ℕ → ℕ → ℕ → Refusal
+-- What writing it returns to a refusal and a sheet, and what it leaves in the lent bytes.
+unfoldable pub writeResultOf : Refusal → Sheet → Written
+writeResultOf refusal s = writeAnswer refusal (resultLength (s .rows))
+
+unfoldable pub resultSpaceOf : Refusal → Sheet → ℕ → ℕ → List ℕ → List ℕ
+resultSpaceOf refusal s processors method out = atFront (refusal .number) (resultOf s processors method) out
+
+-- The same of rows in a word list; the checks are those of a refinement whose answer needs 7 + 11n bytes.
+abbrev pub resultRefusal : List ℕ → ℕ → ℕ → ℕ → Refusal
 resultRefusal words processors method room =
-    wordsRefusal words
-    (firstOf (processorsRefusal processors) (firstOf (methodRefusal method) (roomRefusal room (resultLength (rowCount words)))))
+    refineRefusalOf (notWhole words) (sheetOf words) processors method room (resultLength ((sheetOf words) .rows))
 
--- Writing it: what is returned, and what is left in the lent bytes.
-unfoldable pub writeResult : List ℕ → ℕ → ℕ → ℕ → Written
-writeResult words processors method room = writeAnswer (resultRefusal words processors method room) (resultLength (rowCount words))
+abbrev pub writeResult : List ℕ → ℕ → ℕ → ℕ → Written
+writeResult words processors method room = writeResultOf (resultRefusal words processors method room) (sheetOf words)
 
-unfoldable pub resultAfter : List ℕ → ℕ → ℕ → List ℕ → List ℕ
+abbrev pub resultAfter : List ℕ → ℕ → ℕ → List ℕ → List ℕ
 resultAfter words processors method out =
-    atFront ((resultRefusal words processors method (length out)) .number) (resultOf words processors method) out
+    resultSpaceOf (resultRefusal words processors method (length out)) (sheetOf words) processors method out
 
--- What writing it was given where it is not refused: sound rows, 1 to 64 processors, a method, and room for the sheet.
-pub record Reportable (words : List ℕ) (processors method room : ℕ) : Type 0 where
-  pub rows : SoundRows words
-  pub some-processor : 1 ≤ processors
-  pub few : processors ≤ 64
-  pub by-method : method ≤ 1
-  pub enough : resultLength (rowCount words) ≤ room
+-- What writing it was given where it is not refused: what every question is given, and room for the sheet.
+abbrev pub Reportable : Bool → Sheet → ℕ → ℕ → ℕ → Type 0
+Reportable broken s processors method room = Refinable broken s processors method room (resultLength (s .rows))
 
--- What a result sheet says, read back by its digits: accepted, the row count, and each row's mark and bound.
-pub record SaysBack (s : Sheet) (ask : Ask) (R bytes : List ℕ) : Type 0 where
+-- What a result sheet says, read back by its digits: accepted, the row count, and each row's mark and word.
+pub record SaysBack (s : Sheet) (ask : Ask) (R words bytes : List ℕ) : Type 0 where
   pub accepted-back : number bytes 2 2 ≡ bit (accepted s ask R)
   pub count-back : number bytes 4 2 ≡ s .rows
   pub mark-back : (k : ℕ) → k < s .rows → number bytes (resultHead + k * resultLine + 2) 2 ≡ bit (marked ask R k)
-  pub bound-back : (k : ℕ) → k < s .rows → number bytes (resultHead + k * resultLine + 4) 6 ≡ getD R k 0
+  pub bound-back : (k : ℕ) → k < s .rows → number bytes (resultHead + k * resultLine + 4) 6 ≡ getD words k 0
 
 -- The words that the largest allowed sheet has: 64 rows of three.
 unfoldable pub mostWords : ℕ
@@ -62,7 +63,7 @@ unfoldable pub answerText : List ℕ → List ℕ
 answerText bytes =
     let refusal = readRefusal bytes mostWords in
     unlessRefused (refusal .number) (refusalLine (refusal .number) (refusal .place))
-    (resultOf (wordsWritten bytes) (processorsWritten bytes) 1)
+    (resultOf (sheetOf (wordsWritten bytes)) (processorsWritten bytes) 1)
 
 -- Writing an answer refuses in one case only, 7: the output space is shorter than the answer.
 unfoldable pub answerRefusal : List ℕ → ℕ → Refusal

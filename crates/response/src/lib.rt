@@ -11,13 +11,14 @@ ghost use lib.ListN.{length, getD};
 ghost use Rattle.laws.specs.Sum.{total};
 ghost use Rattle.model.specs.Interference.{rtaRight};
 ghost use Rattle.model.specs.Answer.{bclAnswer, rtaAnswer, methodOf, answer};
-ghost use Rattle.rows.specs.Words.{rowCount, sheetOf, foundOf};
+ghost use Rattle.rows.specs.Words.{sheetOf, foundOf};
+ghost use Rattle.rows.specs.Inner.{Laid};
 ghost use Rattle.refinement.specs.Question.{Ready};
 ghost use Rattle.refinement.specs.Inner.{Prepared, listedShare, termOf};
 
 // What another row adds at X. Where the share or the cap is 0 or 1 it is the least, and no division is needed.
 pub fn term(words: &[u32], bounds: &[u32], taken: &[u32], other: u32, x: u32, cap: u32) -> u32
-    requires { ⌜ Ready (now words) (now bounds) × (other < rowCount (now words)) × (length (now taken) ≡ rowCount (now words)) × (1 ≤ x) × (x ≤ 1_000_000) ⌝ }
+    requires { ⌜ Ready (sheetOf (now words)) (now bounds) × (other < (sheetOf (now words)) .rows) × (length (now taken) ≡ (sheetOf (now words)) .rows) × (1 ≤ x) × (x ≤ 1_000_000) × Laid (now words) ⌝ }
     ensures { λ r. ⌜ r ≡ termOf (sheetOf (now (words .entry))) (now (bounds .entry)) (listedShare (now (taken .entry))) x cap other ⌝ }
 {
     let most = lesser(taken[other as usize], cap);
@@ -39,7 +40,7 @@ pub fn sum_of_terms(
     x: u32,
     cap: u32,
 ) -> u32
-    requires { ⌜ Ready (now words) (now bounds) × (count ≡ rowCount (now words)) × (length (now taken) ≡ count) × (1 ≤ x) × (x ≤ 1_000_000) × (cap ≤ 1_000_000) ⌝ }
+    requires { ⌜ Ready (sheetOf (now words)) (now bounds) × (count ≡ (sheetOf (now words)) .rows) × (length (now taken) ≡ count) × (1 ≤ x) × (x ≤ 1_000_000) × (cap ≤ 1_000_000) × Laid (now words) ⌝ }
     ensures { λ r. ⌜ r ≡ total (termOf (sheetOf (now (words .entry))) (now (bounds .entry)) (listedShare (now (taken .entry))) x cap) count ⌝ }
 {
     let mut sum = 0;
@@ -61,7 +62,7 @@ pub fn right_side(
     processors: u32,
     x: u32,
 ) -> u32
-    requires { ⌜ Prepared (now words) (now bounds) (now taken) row count processors × ((sheetOf (now words)) .cost row ≤ x) × (x ≤ (sheetOf (now words)) .deadline row) ⌝ }
+    requires { ⌜ Prepared (sheetOf (now words)) (now bounds) (now taken) row count processors × ((sheetOf (now words)) .cost row ≤ x) × (x ≤ (sheetOf (now words)) .deadline row) × Laid (now words) ⌝ }
     ensures { λ r. ⌜ r ≡ rtaRight (sheetOf (now (words .entry))) processors row (now (bounds .entry)) x ⌝ }
 {
     let own = cost(words, row);
@@ -77,7 +78,7 @@ pub fn rta_row(
     count: u32,
     processors: u32,
 ) -> Found
-    requires { ⌜ Prepared (now words) (now bounds) (now taken) row count processors ⌝ }
+    requires { ⌜ Prepared (sheetOf (now words)) (now bounds) (now taken) row count processors × Laid (now words) ⌝ }
     ensures { λ r. ⌜ r ≡ foundOf (rtaAnswer (sheetOf (now (words .entry))) processors row (now (bounds .entry))) ⌝ }
 {
     let top = deadline(words, row);
@@ -117,7 +118,7 @@ pub fn bcl_row(
     count: u32,
     processors: u32,
 ) -> Found
-    requires { ⌜ Prepared (now words) (now bounds) (now taken) row count processors ⌝ }
+    requires { ⌜ Prepared (sheetOf (now words)) (now bounds) (now taken) row count processors ⌝ }
     ensures { λ r. ⌜ r ≡ foundOf (bclAnswer (sheetOf (now (words .entry))) processors row (now (bounds .entry))) ⌝ }
 {
     let value = cost(words, row) + sum_of_shares(taken, count) / processors;
@@ -138,7 +139,7 @@ pub fn answer_in(
     method: u32,
     taken: &mut [u32],
 ) -> Found
-    requires { ⌜ Ready (now words) (now bounds) × (row < rowCount (now words)) × (count ≡ rowCount (now words)) × (1 ≤ processors) × (length (now taken) ≡ count) ⌝ }
+    requires { ⌜ Ready (sheetOf (now words)) (now bounds) × (row < (sheetOf (now words)) .rows) × (count ≡ (sheetOf (now words)) .rows) × (1 ≤ processors) × (length (now taken) ≡ count) × Laid (now words) ⌝ }
     ensures { λ r. ⌜ r ≡ foundOf (answer (methodOf method) (sheetOf (now (words .entry))) processors row (now (bounds .entry))) ⌝ }
 {
     fill_shares(words, bounds, row, count, taken);
@@ -158,7 +159,7 @@ pub fn answer_row(
     processors: u32,
     method: u32,
 ) -> Found
-    requires { ⌜ Ready (now words) (now bounds) × (row < rowCount (now words)) × (count ≡ rowCount (now words)) × (1 ≤ processors) ⌝ }
+    requires { ⌜ Ready (sheetOf (now words)) (now bounds) × (row < (sheetOf (now words)) .rows) × (count ≡ (sheetOf (now words)) .rows) × (1 ≤ processors) × Laid (now words) ⌝ }
     ensures { λ r. ⌜ r ≡ foundOf (answer (methodOf method) (sheetOf (now (words .entry))) processors row (now (bounds .entry))) ⌝ }
 {
     let mut taken = [0u32; 64];

@@ -14,7 +14,7 @@ use sheet::read_sheet;
 ghost use mathlib.Core.Path.{_≡_};
 ghost use lib.ListN.{length};
 ghost use Rattle.laws.specs.Fill.{atFront};
-ghost use Rattle.rows.specs.Words.{rowCount};
+ghost use Rattle.rows.specs.Words.{sheetOf};
 ghost use Rattle.rows.specs.Checks.{refused, roomRefusal};
 ghost use Rattle.refinement.specs.Refinement.{refineRefusal};
 ghost use Rattle.grammar.specs.Sheets.{writeAnswer};
@@ -35,8 +35,8 @@ fn result_refusal(words: &[u32], processors: u32, method: u32, room: usize) -> R
 
 // Refines the rows at once, and writes their result sheet.
 fn put_refined(words: &[u32], processors: u32, method: u32, rows: u32, out: &mut [u8])
-    requires { ⌜ ((refineRefusal (now words) processors method 64) .number ≡ 0) × (rows ≡ rowCount (now words)) × (length (now out) ≡ resultLength rows) ⌝ }
-    ensures { λ _. ⌜ now (out .exit) ≡ resultOf (now (words .entry)) processors method ⌝ }
+    requires { ⌜ ((refineRefusal (now words) processors method 64) .number ≡ 0) × (rows ≡ (sheetOf (now words)) .rows) × (length (now out) ≡ resultLength rows) ⌝ }
+    ensures { λ _. ⌜ now (out .exit) ≡ resultOf (sheetOf (now (words .entry))) processors method ⌝ }
 {
     let mut bounds = [0u32; 64];
     let refined = refine_at_once(words, processors, method, &mut bounds);

@@ -1,12 +1,12 @@
 // Writing the lines of a result sheet, each into the part of the output that is lent for it.
 use digits::put_digits;
+use marks::all_marked;
+use marks::mark_of;
 ghost use mathlib.Core.Path.{_≡_};
-ghost use Prim.Native.Nat.{_+_, _*_, _≤_, _<_};
+ghost use Prim.Native.Nat.{_+_, _*_, _≤_};
 ghost use lib.ListN.{length};
 ghost use Rattle.laws.specs.Fill.{joined};
-ghost use Rattle.laws.specs.Bits.{bit, bitAt, every};
-ghost use Rattle.report.specs.Lines.{resultLine, resultLength, lineText};
-ghost use Rattle.report.specs.Inner.{lineFrom, isSet, linesFrom};
+ghost use Rattle.report.specs.Lines.{resultLine, resultLength, lineText, resultLineOf, resultBytes};
 
 // The length of line one.
 pub(crate) const HEAD: usize = 7;
@@ -16,29 +16,6 @@ pub(crate) const LINE: usize = 11;
 
 // The length of the line that a refused sheet gets.
 pub(crate) const REFUSED: usize = 9;
-
-// A row's bit of the marks: 1 where it is marked, else 0.
-pub(crate) fn mark_of(marks: u64, row: u32) -> u32
-    requires { ⌜ row < 64 ⌝ }
-    ensures { λ r. ⌜ r ≡ bitAt marks row ⌝ }
-{
-    ((marks >> row) % 2) as u32
-}
-
-// 1 where every row is marked, else 0.
-pub(crate) fn all_marked(marks: u64, rows: u32) -> u32
-    requires { ⌜ rows ≤ 64 ⌝ }
-    ensures { λ r. ⌜ r ≡ bit (every (isSet marks) rows) ⌝ }
-{
-    let mut row = 0;
-    while row < rows {
-        if mark_of(marks, row) != 1 {
-            return 0;
-        }
-        row += 1;
-    }
-    1
-}
 
 // Writes one line: its kind and a small number, a number of so many digits, and its end.
 pub(crate) fn put_line(out: &mut [u8], kind: u32, small: u32, count: usize, value: u32)
@@ -55,7 +32,7 @@ pub(crate) fn put_line(out: &mut [u8], kind: u32, small: u32, count: usize, valu
 // Writes one line a row.
 pub(crate) fn put_rows(marks: u64, bounds: &[u32], rows: u32, out: &mut [u8])
     requires { ⌜ (rows ≤ 64) × (rows ≤ length (now bounds)) × (length (now out) ≡ resultLine * rows) ⌝ }
-    ensures { λ _. ⌜ now (out .exit) ≡ joined (lineFrom marks (now (bounds .entry))) rows ⌝ }
+    ensures { λ _. ⌜ now (out .exit) ≡ joined (resultLineOf marks (now (bounds .entry))) rows ⌝ }
 {
     let mut row = 0;
     while row < rows {
@@ -75,7 +52,7 @@ pub(crate) fn put_rows(marks: u64, bounds: &[u32], rows: u32, out: &mut [u8])
 // Writes a whole result sheet.
 pub(crate) fn put_result(marks: u64, bounds: &[u32], rows: u32, out: &mut [u8])
     requires { ⌜ (rows ≤ 64) × (rows ≤ length (now bounds)) × (length (now out) ≡ resultLength rows) ⌝ }
-    ensures { λ _. ⌜ now (out .exit) ≡ linesFrom marks (now (bounds .entry)) rows ⌝ }
+    ensures { λ _. ⌜ now (out .exit) ≡ resultBytes rows marks (now (bounds .entry)) ⌝ }
 {
     put_line(&mut out[..HEAD], 0x11, all_marked(marks, rows), 2, rows);
     put_rows(marks, bounds, rows, &mut out[HEAD..]);

@@ -1,49 +1,51 @@
 -- The checks in number order, taken apart: a refusal with number 0 failed every test, and where every test fails there is none.
 use mathlib.Core.Path.{_≡_, refl, sym, _∙_, ap}
-use mathlib.Core.Bool.{Bool, true, false, not, _||_}
-use mathlib.Core.List.{List}
+use mathlib.Core.Bool.{Bool, true, false, not}
+use mathlib.Core.List.{List, [], _∷_}
 use mathlib.Core.Option.{Option, none, some}
-use Prim.Native.Nat.{ℕ, _*_, _/_, _%_, _≤_, _<_}
+use Prim.Native.Nat.{ℕ, _%_, _≤_, _<_}
 use native.Mathlib.Omega.{arith}
 use native.Mathlib.Decide.{ℕ-discrete}
-use borrow.Author.Tests.{eq-eqb, ne-eqb, eqb-true, eqb-false, le-ltb, ltb-false, not-true, not-false}
+use borrow.Author.Tests.{eq-eqb, ne-eqb, eqb-true, eqb-false, lt-ltb, le-ltb, ltb-false, not-false}
 use lib.Dec.{eqb, ltb}
 use lib.ListN.{length}
 use Rattle.laws.specs.Choice.{pick, unlessRefused}
 use Rattle.laws.specs.Search.{Nothing}
-use Rattle.laws.proofs.Choice.{never-both, pick-yes, pick-no}
+use Rattle.laws.proofs.Choice.{pick-yes, pick-no, not-refused, is-refused}
 use Rattle.laws.proofs.Search.{least-means, least-fixed}
-use Rattle.model.specs.Sheet.{Sheet, rowAllowedAt, processorsAllowed}
-use Rattle.model.proofs.Sheet.{SizedRow, count-allowed, row-sized}
+use Rattle.model.specs.Sheet.{Sheet, triples, rowAllowedAt, processorsAllowed, Allowed}
+use Rattle.model.proofs.Sheet.{count-allowed, allowed-count}
 use Rattle.rows.specs.declared.Refusal.{Refusal}
-use Rattle.rows.specs.Words.{rowCount, sheetOf, outside, firstOutside}
-use Rattle.rows.specs.Checks.{refused, notRefused, notRows, tooMany, processorsRefusal, methodRefusal, roomRefusal, firstOf, rowsRefusal, wordsRefusal, SoundRows, Accepted}
-use Rattle.rows.specs.Inner.{shapeRefusal}
-use Rattle.rows.proofs.Words.{sheet-rows}
+use Rattle.rows.specs.Words.{sheetOf, outside, firstOutside}
+use Rattle.rows.specs.Checks.{refused, notRefused, countRefusal, processorsRefusal, methodRefusal, roomRefusal, firstOf, firstHeld, rowsRefusal, sheetRefusal, laidRefusal, notWhole, wordsRefusal, Accepted}
+use Rattle.rows.specs.Inner.{shapeRefusal, Laid, NoneHold}
 
--- A list that is not empty and whole rows is three words a row, and at least one row.
-pub rows-whole : (words : List ℕ) → notRows words ≡ false → (length words ≡ 3 * rowCount words) × (1 ≤ rowCount words)
-unfolding notRows rowCount
-rows-whole words passed = split (eqb (length words) 0) refl (eqb (length words % 3) 0) refl passed
+-- A list without a word left over is three words for each row of its sheet, and the other way round.
+pub words-laid : (words : List ℕ) → notWhole words ≡ false → Laid words
+unfolding notWhole sheetOf triples
+words-laid words passed =
+    let no-rest : length words % 3 ≡ 0 = eqb-true (length words % 3) 0 (not-false _ passed) in
+    record { whole = omega arith }
+
+pub laid-words : (words : List ℕ) → Laid words → notWhole words ≡ false
+unfolding notWhole sheetOf triples
+laid-words words laid = ap not (eq-eqb (length words % 3) 0 (omega (arith, laid .whole)))
+
+-- The count is not refused exactly from 1 to 64.
+pub count-within : (n : ℕ) → countRefusal n ≡ 0 → (1 ≤ n) × (n ≤ 64)
+unfolding countRefusal
+count-within n zero = split (eqb n 0) refl (ltb 64 n) refl zero
   where
-    split : (empty : Bool) → eqb (length words) 0 ≡ empty → (even : Bool) → eqb (length words % 3) 0 ≡ even
-        → (empty || not even) ≡ false → (length words ≡ 3 * (length words / 3)) × (1 ≤ length words / 3)
-    split true is-empty even is-even passed = absurd (never-both refl passed)
-    split false not-empty false not-even passed = absurd (never-both refl passed)
-    split false not-empty true is-even passed =
-        let some-words : length words ≡ 0 → ⊥ = eqb-false (length words) 0 not-empty in
-        let no-rest : length words % 3 ≡ 0 = eqb-true (length words % 3) 0 is-even in
-        (omega arith, omega arith)
+    split : (empty : Bool) → eqb n 0 ≡ empty → (many : Bool) → ltb 64 n ≡ many → _≡_ {A = ℕ} (pick empty 2 (pick many 3 0)) 0 → (1 ≤ n) × (n ≤ 64)
+    split true is-empty many is-many zero = absurd (omega arith)
+    split false not-empty true is-many zero = absurd (omega arith)
+    split false not-empty false not-many zero =
+        let some-rows : n ≡ 0 → ⊥ = eqb-false n 0 not-empty in
+        (omega arith, ltb-false 64 n not-many)
 
--- The list passes where it is not empty and no word is left over.
-pub words-whole : (words : List ℕ) → (length words ≡ 0 → ⊥) → length words % 3 ≡ 0 → notRows words ≡ false
-unfolding notRows
-words-whole words some-words no-rest = rw (ne-eqb (length words) 0 some-words, eq-eqb (length words % 3) 0 no-rest)
-
--- Three words a row and at least one row is a list that passes.
-pub whole-rows : (words : List ℕ) → length words ≡ 3 * rowCount words → 1 ≤ rowCount words → notRows words ≡ false
-unfolding rowCount
-whole-rows words whole some-rows = words-whole words (λ none-there. omega arith) (omega arith)
+pub within-count : (n : ℕ) → 1 ≤ n → n ≤ 64 → countRefusal n ≡ 0
+unfolding countRefusal
+within-count n some-rows few = pick-no _ _ _ (ne-eqb n 0 (λ none-there. omega arith)) ∙ pick-no _ _ _ (le-ltb 64 n few)
 
 -- Where no row is found outside, each row has its sizes.
 pub none-outside : (s : Sheet) → firstOutside s ≡ none → (k : ℕ) → k < s .rows → rowAllowedAt s k ≡ true
@@ -57,53 +59,6 @@ pub each-inside : (s : Sheet) → ((k : ℕ) → k < s .rows → rowAllowedAt s 
 unfolding firstOutside outside
 each-inside s each = least-fixed (outside s) 0 (s .rows) none (λ k from here. ap not (each k (omega arith)))
 
--- The tests as they came out: only where each failed is the number 0.
-came-out : (words : List ℕ) (between : ℕ)
-    → (shapeless : Bool) → notRows words ≡ shapeless → (many : Bool) → tooMany words ≡ many
-    → (other : Bool) → not (eqb between 0) ≡ other → (row : Option ℕ) → firstOutside (sheetOf words) ≡ row
-    → (pick shapeless (refused 2 0) (pick many (refused 3 0) (pick other (refused between 0) (rowsRefusal row)))) .number ≡ 0
-    → Accepted words between
-unfolding tooMany rowsRefusal
-came-out words between true is-shapeless many is-many other is-other row found zero = absurd (omega arith)
-came-out words between false has-shape true is-many other is-other row found zero = absurd (omega arith)
-came-out words between false has-shape false not-many true is-other row found zero =
-    absurd (eqb-false between 0 (not-true _ is-other) zero)
-came-out words between false has-shape false not-many false not-other (some row) found zero = absurd (omega arith)
-came-out words between false has-shape false not-many false not-other none found zero =
-    let shape = rows-whole words has-shape in
-    let few : rowCount words ≤ 64 = ltb-false 64 (rowCount words) not-many in
-    record {
-      rows = record {
-        whole = shape .0;
-        one-or-more = shape .1;
-        at-most = few;
-        allowed = record {
-          count = rw sheet-rows (count-allowed (rowCount words) (shape .1) few);
-          each = none-outside (sheetOf words) found;
-        };
-      };
-      nothing-between = eqb-true between 0 (not-false _ not-other);
-    }
-
--- A refusal with number 0: the words are sound, and none of the entry's own checks held.
-pub accepted : (words : List ℕ) (between : ℕ) → (wordsRefusal words between) .number ≡ 0 → Accepted words between
-unfolding wordsRefusal
-accepted words between zero = came-out words between _ refl _ refl _ refl _ refl zero
-
--- Sound words and no other check that holds: no refusal, number and place 0.
-pub sound-passes : (words : List ℕ) (between : ℕ) → Accepted words between → wordsRefusal words between ≡ notRefused
-unfolding wordsRefusal tooMany rowsRefusal
-sound-passes words between facts =
-    let rows = facts .rows in
-    pick-no _ _ _ (whole-rows words (rows .whole) (rows .one-or-more))
-    ∙ pick-no _ _ _ (le-ltb 64 (rowCount words) (rows .at-most))
-    ∙ pick-no _ _ _ (ap not (eq-eqb between 0 (facts .nothing-between)))
-    ∙ ap rowsRefusal (each-inside (sheetOf words) (rows .allowed .each))
-
--- With number 0 the place is 0 too.
-pub number-only : (words : List ℕ) (between : ℕ) → (wordsRefusal words between) .number ≡ 0 → wordsRefusal words between ≡ notRefused
-number-only words between zero = sound-passes words between (accepted words between zero)
-
 -- The first of two checks is 0 only where both are.
 pub first-of-zero : (first second : ℕ) → firstOf first second ≡ 0 → (first ≡ 0) × (second ≡ 0)
 unfolding firstOf
@@ -113,10 +68,128 @@ first-of-zero first second zero = split (eqb first 0) refl zero
     split true is-zero zero = (eqb-true first 0 is-zero, zero)
     split false not-zero zero = absurd (eqb-false first 0 not-zero zero)
 
--- Where neither holds there is none.
-pub first-of-none : (first second : ℕ) → first ≡ 0 → second ≡ 0 → firstOf first second ≡ 0
+-- A check that does not hold leaves it to the next.
+pub next-decides : (first second : ℕ) → first ≡ 0 → firstOf first second ≡ second
 unfolding firstOf
-first-of-none first second first-zero second-zero = pick-yes _ _ _ (eq-eqb first 0 first-zero) ∙ second-zero
+next-decides first second zero = pick-yes _ _ _ (eq-eqb first 0 zero)
+
+-- The first of several is 0 exactly where none holds.
+pub none-held : (checks : List ℕ) → firstHeld checks ≡ 0 → NoneHold checks
+unfolding firstHeld
+none-held [] zero = tt
+none-held (check ∷ later) zero =
+    let both = first-of-zero check (firstHeld later) zero in
+    (both .0, none-held later (both .1))
+
+pub held-none : (checks : List ℕ) → NoneHold checks → firstHeld checks ≡ 0
+unfolding firstHeld
+held-none [] none-hold = refl
+held-none (check ∷ later) none-hold = next-decides check (firstHeld later) (none-hold .0) ∙ held-none later (none-hold .1)
+
+-- A first check that does not hold leaves it to the others.
+pub others-pass : (check : ℕ) (later : List ℕ) → check ≡ 0 → firstHeld (check ∷ later) ≡ firstHeld later
+unfolding firstHeld
+others-pass check later zero = next-decides check (firstHeld later) zero
+
+-- The fold as code makes it, from the last check up: the last by itself, then each before those that are folded already.
+pub held-last : (check : ℕ) {given : ℕ} → given ≡ check → given ≡ firstHeld (check ∷ [])
+unfolding firstHeld firstOf
+held-last check {given} is-check = is-check ∙ split (eqb check 0) refl
+  where
+    split : (b : Bool) → eqb check 0 ≡ b → check ≡ pick b 0 check
+    split true is-zero = eqb-true check 0 is-zero
+    split false not-zero = refl
+
+pub held-more : (check : ℕ) (later : List ℕ) {given rest whole : ℕ} → given ≡ check → rest ≡ firstHeld later → whole ≡ firstOf given rest
+    → whole ≡ firstHeld (check ∷ later)
+unfolding firstHeld
+held-more check later {given} {rest} {whole} is-check is-rest is-whole = rw (is-check, is-rest) at is-whole
+
+-- Where the row count and the entry's own checks pass, the rows decide.
+rows-decide : (s : Sheet) (own : ℕ) → Allowed s → own ≡ 0 → sheetRefusal s own ≡ rowsRefusal (firstOutside s)
+unfolding sheetRefusal
+rows-decide s own sizes none-held =
+    let count = allowed-count (s .rows) (sizes .count) in
+    not-refused _ _ _ (next-decides _ own (within-count (s .rows) (count .0) (count .1)) ∙ none-held)
+
+-- Over a sheet number 0 says that its sizes are allowed and that none of the entry's own checks held.
+sheet-accepted : (s : Sheet) (own : ℕ) → (sheetRefusal s own) .number ≡ 0 → Allowed s × (own ≡ 0)
+unfolding sheetRefusal rowsRefusal
+sheet-accepted s own zero = decided (ℕ-discrete (firstOf (countRefusal (s .rows)) own) 0)
+  where
+    by-row : (row : Option ℕ) → (rowsRefusal row) .number ≡ 0 → row ≡ none
+    by-row none none-outside = refl
+    by-row (some row) eight = absurd (omega arith)
+
+    decided : Dec (firstOf (countRefusal (s .rows)) own ≡ 0) → Allowed s × (own ≡ 0)
+    decided (yes passed) =
+        let both = first-of-zero (countRefusal (s .rows)) own passed in
+        let count = count-within (s .rows) (both .0) in
+        let inside = by-row (firstOutside s) (rw (not-refused _ (refused _ 0) (rowsRefusal (firstOutside s)) passed) at zero) in
+        (record { count = count-allowed (s .rows) (count .0) (count .1); each = none-outside s inside }, both .1)
+    decided (no held) =
+        absurd (held (rw (is-refused _ (refused _ 0) (rowsRefusal (firstOutside s)) held) at zero))
+
+-- A refusal with number 0: layout and sizes are as they should be, and none of the entry's own checks held.
+pub accepted : (broken : Bool) (s : Sheet) (own : ℕ) → (laidRefusal broken s own) .number ≡ 0 → Accepted broken s own
+unfolding laidRefusal
+accepted true s own zero = absurd (omega arith)
+accepted false s own zero =
+    let facts = sheet-accepted s own zero in
+    record { laid = refl; sizes = facts .0; none-held = facts .1 }
+
+-- And where that is so there is no refusal: number and place 0.
+pub accepted-passes : (broken : Bool) (s : Sheet) (own : ℕ) → Accepted broken s own → laidRefusal broken s own ≡ notRefused
+unfolding laidRefusal rowsRefusal
+accepted-passes broken s own facts =
+    pick-no _ _ _ (facts .laid)
+    ∙ rows-decide s own (facts .sizes) (facts .none-held)
+    ∙ ap rowsRefusal (each-inside s (facts .sizes .each))
+
+-- With number 0 the place is 0 too.
+pub number-only : (broken : Bool) (s : Sheet) (own : ℕ) → (laidRefusal broken s own) .number ≡ 0 → laidRefusal broken s own ≡ notRefused
+number-only broken s own zero = accepted-passes broken s own (accepted broken s own zero)
+
+-- Rows with nothing wrong are refused exactly by the entry's own checks.
+pub own-decides : (broken : Bool) (s : Sheet) (own : ℕ) → broken ≡ false → Allowed s → laidRefusal broken s own ≡ refused own 0
+unfolding laidRefusal sheetRefusal
+own-decides broken s own laid sizes = decided (ℕ-discrete own 0)
+  where
+    decided : Dec (own ≡ 0) → laidRefusal broken s own ≡ refused own 0
+    decided (yes zero) =
+        accepted-passes broken s own (record { laid = laid; sizes = sizes; none-held = zero })
+        ∙ ap (λ (n : ℕ). refused n 0) (sym zero)
+    decided (no one-holds) =
+        let count = allowed-count (s .rows) (sizes .count) in
+        let number = next-decides (countRefusal (s .rows)) own (within-count (s .rows) (count .0) (count .1)) in
+        pick-no _ _ _ laid
+        ∙ is-refused _ _ _ (λ zero. one-holds (sym number ∙ zero))
+        ∙ ap (λ (n : ℕ). refused n 0) number
+
+-- A refusal's number is 0, 2, 3, 8 or that of the entry's own checks: what holds of these holds of it.
+pub each-number : (P : ℕ → Type 0) (broken : Bool) (s : Sheet) (own : ℕ) → P 0 → P 2 → P 3 → P own → P 8 → P ((laidRefusal broken s own) .number)
+unfolding laidRefusal sheetRefusal unlessRefused firstOf countRefusal rowsRefusal
+each-number P broken s own zero two three by-own eight = split broken (eqb (s .rows) 0) (ltb 64 (s .rows))
+  where
+    sized : (clear : Bool) (row : Option ℕ) → P ((pick clear (rowsRefusal row) (refused own 0)) .number)
+    sized false row = by-own
+    sized true none = zero
+    sized true (some row) = eight
+
+    split : (broken empty many : Bool)
+        → let count : ℕ = pick empty 2 (pick many 3 0) in
+        let number : ℕ = pick (eqb count 0) own count in
+        P ((pick broken (refused 2 0) (pick (eqb number 0) (rowsRefusal (firstOutside s)) (refused number 0))) .number)
+    split true empty many = two
+    split false true many = two
+    split false false true = three
+    split false false false = sized (eqb own 0) (firstOutside s)
+
+-- More than 64 rows are refused whatever comes after.
+pub count-refused : (broken : Bool) (s : Sheet) (own : ℕ) → broken ≡ false → 64 < s .rows → laidRefusal broken s own ≡ refused 3 0
+unfolding laidRefusal sheetRefusal unlessRefused firstOf countRefusal
+count-refused broken s own laid many =
+    pick-no _ _ _ laid ∙ rw (ne-eqb (s .rows) 0 (λ none-there. omega arith), lt-ltb 64 (s .rows) many)
 
 -- What gives 0 and not a refusal's number is allowed.
 pub allowed-by-zero : (allowed : Bool) (number : ℕ) → (number ≡ 0 → ⊥) → pick allowed 0 number ≡ 0 → allowed ≡ true
@@ -145,67 +218,6 @@ pub enough-room : (room need : ℕ) → need ≤ room → roomRefusal room need 
 unfolding roomRefusal
 enough-room room need enough = pick-no _ _ _ (le-ltb room need enough)
 
--- The same refusal, told by its number: where a check before the rows' sizes holds, its number; else by the first row outside.
-pub by-number : (words : List ℕ) (between : ℕ)
-    → let number = firstOf (shapeRefusal words) between in
-    wordsRefusal words between ≡ unlessRefused number (refused number 0) (rowsRefusal (firstOutside (sheetOf words)))
-unfolding wordsRefusal shapeRefusal firstOf unlessRefused
-by-number words between =
-    split (notRows words) (tooMany words) (eqb between 0) refl (rowsRefusal (firstOutside (sheetOf words)))
-  where
-    split : (shapeless many clear : Bool) → eqb between 0 ≡ clear → (rows : Refusal)
-        → let shape : ℕ = pick shapeless 2 (pick many 3 0) in
-        let number : ℕ = pick (eqb shape 0) between shape in
-        pick shapeless (refused 2 0) (pick many (refused 3 0) (pick (not clear) (refused between 0) rows))
-        ≡ pick (eqb number 0) rows (refused number 0)
-    split true many clear told rows = refl
-    split false true clear told rows = refl
-    split false false true told rows = rw told
-    split false false false told rows = rw told
-
--- With neither 2 nor 3 there are at most 64 rows.
-pub shape-few : (words : List ℕ) → shapeRefusal words ≡ 0 → rowCount words ≤ 64
-unfolding shapeRefusal tooMany
-shape-few words zero = split (notRows words) (tooMany words) refl zero
-  where
-    split : (shapeless many : Bool) → ltb 64 (rowCount words) ≡ many → _≡_ {A = ℕ} (pick shapeless 2 (pick many 3 0)) 0 → rowCount words ≤ 64
-    split true many told zero = absurd (omega arith)
-    split false true told zero = absurd (omega arith)
-    split false false told zero = ltb-false 64 (rowCount words) told
-
--- Each row of sound words has its sizes.
-pub sound-row : (words : List ℕ) → SoundRows words → (k : ℕ) → k < rowCount words
-    → SizedRow ((sheetOf words) .cost k) ((sheetOf words) .deadline k) ((sheetOf words) .period k)
-sound-row words sound k here = row-sized (sheetOf words) (sound .allowed) k (rw sheet-rows here)
-
--- Checks made only where the first ones passed: number 0 at the end says that both passed.
-pub both-passed : (first second : Refusal) → (unlessRefused (first .number) first second) .number ≡ 0 → (first .number ≡ 0) × (second .number ≡ 0)
-unfolding unlessRefused
-both-passed first second zero = split (eqb (first .number) 0) refl zero
-  where
-    split : (b : Bool) → eqb (first .number) 0 ≡ b → (pick b second first) .number ≡ 0 → (first .number ≡ 0) × (second .number ≡ 0)
-    split true is-zero zero = (eqb-true (first .number) 0 is-zero, zero)
-    split false not-zero zero = absurd (eqb-false (first .number) 0 not-zero zero)
-
--- Sound words are refused exactly by the entry's own
-pub sound-between : (words : List ℕ) (between : ℕ) → SoundRows words → wordsRefusal words between ≡ refused between 0
-unfolding wordsRefusal tooMany
-sound-between words between sound = decided (ℕ-discrete between 0)
-  where
-    decided : Dec (between ≡ 0) → wordsRefusal words between ≡ refused between 0
-    decided (yes zero) =
-        sound-passes words between (record { rows = sound; nothing-between = zero })
-        ∙ ap (λ (n : ℕ). refused n 0) (sym zero)
-    decided (no one-holds) =
-        pick-no _ _ _ (whole-rows words (sound .whole) (sound .one-or-more))
-        ∙ pick-no _ _ _ (le-ltb 64 (rowCount words) (sound .at-most))
-        ∙ pick-yes _ _ _ (ap not (ne-eqb between 0 one-holds))
-
--- A check that does not hold leaves it to the next.
-pub next-decides : (first second : ℕ) → first ≡ 0 → firstOf first second ≡ second
-unfolding firstOf
-next-decides first second zero = pick-yes _ _ _ (eq-eqb first 0 zero)
-
 -- The method is not refused exactly if it is 0 or 1.
 pub method-within : (method : ℕ) → methodRefusal method ≡ 0 → method ≤ 1
 unfolding methodRefusal
@@ -218,3 +230,36 @@ method-within method zero = split (ltb 1 method) refl zero
 pub within-method : (method : ℕ) → method ≤ 1 → methodRefusal method ≡ 0
 unfolding methodRefusal
 within-method method small = pick-no _ _ _ (le-ltb 1 method small)
+
+-- The same refusal, told by its number: where a check before the rows' sizes holds, its number; else by the first row outside.
+pub by-number : (words : List ℕ) (own : ℕ)
+    → let number = firstOf (shapeRefusal words) own in
+    wordsRefusal words own ≡ unlessRefused number (refused number 0) (rowsRefusal (firstOutside (sheetOf words)))
+unfolding laidRefusal sheetRefusal shapeRefusal firstOf unlessRefused
+by-number words own = split (notWhole words) (countRefusal ((sheetOf words) .rows)) (rowsRefusal (firstOutside (sheetOf words)))
+  where
+    split : (broken : Bool) (count : ℕ) (rows : Refusal)
+        → let whole = pick (eqb count 0) own count in
+        let shape : ℕ = pick broken 2 count in
+        let number : ℕ = pick (eqb shape 0) own shape in
+        pick broken (refused 2 0) (pick (eqb whole 0) rows (refused whole 0)) ≡ pick (eqb number 0) rows (refused number 0)
+    split true count rows = refl
+    split false count rows = refl
+
+-- With neither 2 nor 3 there are at most 64 rows.
+pub shape-few : (words : List ℕ) → shapeRefusal words ≡ 0 → (sheetOf words) .rows ≤ 64
+unfolding shapeRefusal
+shape-few words zero = split (notWhole words) zero
+  where
+    split : (broken : Bool) → pick broken 2 (countRefusal ((sheetOf words) .rows)) ≡ 0 → (sheetOf words) .rows ≤ 64
+    split true zero = absurd (omega arith)
+    split false zero = count-within ((sheetOf words) .rows) zero .1
+
+-- Checks made only where the first ones passed: number 0 at the end says that both passed.
+pub both-passed : (first second : Refusal) → (unlessRefused (first .number) first second) .number ≡ 0 → (first .number ≡ 0) × (second .number ≡ 0)
+unfolding unlessRefused
+both-passed first second zero = split (eqb (first .number) 0) refl zero
+  where
+    split : (b : Bool) → eqb (first .number) 0 ≡ b → (pick b second first) .number ≡ 0 → (first .number ≡ 0) × (second .number ≡ 0)
+    split true is-zero zero = (eqb-true (first .number) 0 is-zero, zero)
+    split false not-zero zero = absurd (eqb-false (first .number) 0 not-zero zero)

@@ -8,12 +8,7 @@ use native.Mathlib.Omega.{arith}
 use lib.ListN.{getD}
 use Rattle.model.specs.Sheet.{triples, rowAllowedAt}
 use Rattle.rows.specs.declared.Found.the-variants.{At, Nowhere}
-use Rattle.rows.specs.Words.{rowCount, sheetOf, outside, foundOf, boundOr, foundFrom}
-
--- The sheet that words say has as many rows as the words hold.
-pub sheet-rows : (words : List ℕ) → (sheetOf words) .rows ≡ rowCount words
-unfolding sheetOf triples
-sheet-rows words = refl
+use Rattle.rows.specs.Words.{sheetOf, outside, foundOf, boundOr, foundFrom}
 
 -- The cost, the deadline and the period of row k are words 3k, 3k + 1 and 3k + 2.
 pub cost-word : (words : List ℕ) (k : ℕ) → (sheetOf words) .cost k ≡ getD words (3 * k) 0

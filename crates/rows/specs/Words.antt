@@ -9,13 +9,9 @@ use Rattle.model.specs.Sheet.{Sheet, triples, rowAllowedAt}
 use Rattle.rows.specs.declared.Found.{Found}
 use Rattle.rows.specs.declared.Found.the-variants.{At, Nowhere}
 
--- How many whole rows the words hold.
-unfoldable pub rowCount : List ℕ → ℕ
-rowCount words = length words / 3
-
--- The sheet that the words say.
+-- The sheet that the words say: as many rows as they hold whole.
 unfoldable pub sheetOf : List ℕ → Sheet
-sheetOf words = triples (rowCount words) words
+sheetOf words = triples (length words / 3) words
 
 -- A row outside the sizes allowed.
 unfoldable pub outside : Sheet → ℕ → Bool

@@ -6,7 +6,7 @@ use inner::shape_refusal;
 use inner::word_at;
 ghost use mathlib.Core.Path.{_≡_};
 ghost use Rattle.model.specs.Sheet.{triples};
-ghost use Rattle.rows.specs.Words.{rowCount, sheetOf, firstOutside, foundOf, boundOr, foundFrom};
+ghost use Rattle.rows.specs.Words.{sheetOf, firstOutside, foundOf, boundOr, foundFrom};
 ghost use Rattle.rows.specs.Checks.{rangeRefusal, processorsRefusal, methodRefusal, roomRefusal, firstOf, wordsRefusal};
 
 // What a search found: a place or a length, or that there is none.
@@ -44,7 +44,7 @@ pub fn period(words: &[u32], row: u32) -> u32
 
 // How many whole rows the words hold.
 pub fn row_count(words: &[u32]) -> usize
-    ensures { λ r. ⌜ r ≡ rowCount (now (words .entry)) ⌝ }
+    ensures { λ r. ⌜ r ≡ (sheetOf (now (words .entry))) .rows ⌝ }
 {
     words.len() / 3
 }

@@ -7,7 +7,7 @@ ghost use mathlib.Core.Path.{_≡_};
 ghost use Prim.Native.Nat.{_*_, _≤_, _<_};
 ghost use lib.ListN.{length};
 ghost use Rattle.laws.specs.Fill.{joined};
-ghost use Rattle.rows.specs.Words.{rowCount, sheetOf};
+ghost use Rattle.rows.specs.Words.{sheetOf};
 ghost use Rattle.grammar.specs.Grammar.{head, line, sheetLength};
 ghost use Rattle.grammar.specs.Lines.{firstLine, rowLine, lineOf, sheetBytes};
 
@@ -55,7 +55,7 @@ pub(crate) fn put_rows(words: &[u32], rows: u32, out: &mut [u8])
 
 // Writes a whole sheet.
 pub(crate) fn put_sheet(words: &[u32], processors: u32, out: &mut [u8])
-    requires { ⌜ (rowCount (now words) ≤ 64) × (length (now out) ≡ sheetLength (rowCount (now words))) ⌝ }
+    requires { ⌜ ((sheetOf (now words)) .rows ≤ 64) × (length (now out) ≡ sheetLength ((sheetOf (now words)) .rows)) ⌝ }
     ensures { λ _. ⌜ now (out .exit) ≡ sheetBytes (sheetOf (now (words .entry))) processors ⌝ }
 {
     let rows = rows::row_count(words) as u32;

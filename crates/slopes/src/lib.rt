@@ -7,7 +7,8 @@ ghost use mathlib.Core.Path.{_≡_};
 ghost use Prim.Native.Nat.{ℕ, _+_, _*_, _-_, _≤_, _<_};
 ghost use Rattle.model.specs.Answer.{methodOf};
 ghost use Rattle.model.specs.Interference.{share, carried};
-ghost use Rattle.rows.specs.Words.{rowCount, sheetOf};
+ghost use Rattle.rows.specs.Words.{sheetOf};
+ghost use Rattle.rows.specs.Inner.{Laid};
 ghost use Rattle.refinement.specs.Inner.Ray.{termAlong, capAlong, addedAlong, sumAlong, Lies, Lasts, FallsFrom, Lower, OnWay, Aimed, SmallLine, SumLine, StaysBelow};
 
 // A line that begins at a value and falls by a slope a step, and for how many steps it holds.
@@ -113,7 +114,7 @@ pub fn lower_line(one: Line, other: Line) -> Line
 
 // The most that another row may add, along the ray: fixed for BCL, falling with the row itself for RTA.
 pub fn cap_line(words: &[u32], bounds: &[u32], drops: &[u32], way: Way) -> Line
-    requires { ⌜ OnWay (now words) (now bounds) (now drops) (way .row) (way .most) × Aimed (sheetOf (now words)) (now bounds) (now drops) (way .row) (way .window) (way .first) (way .fall) × (1 ≤ way .most) ⌝ }
+    requires { ⌜ OnWay (sheetOf (now words)) (now bounds) (now drops) (way .row) (way .most) × Aimed (sheetOf (now words)) (now bounds) (now drops) (way .row) (way .window) (way .first) (way .fall) × (1 ≤ way .most) × Laid (now words) ⌝ }
     ensures { λ r. ⌜ SmallLine (capAlong (methodOf (way .method)) (sheetOf (now (words .entry))) (now (bounds .entry)) (now (drops .entry)) (way .row)) (way .most) (r .value) (r .slope) (r .limit) ⌝ }
 {
     let own = 3 * (way.row as usize);
@@ -141,7 +142,7 @@ pub fn term_line(
     way: Way,
     cap: Line,
 ) -> Line
-    requires { ⌜ OnWay (now words) (now bounds) (now drops) (way .row) (way .most) × Aimed (sheetOf (now words)) (now bounds) (now drops) (way .row) (way .window) (way .first) (way .fall) × (other < rowCount (now words)) × SmallLine (capAlong (methodOf (way .method)) (sheetOf (now words)) (now bounds) (now drops) (way .row)) (way .most) (cap .value) (cap .slope) (cap .limit) ⌝ }
+    requires { ⌜ OnWay (sheetOf (now words)) (now bounds) (now drops) (way .row) (way .most) × Aimed (sheetOf (now words)) (now bounds) (now drops) (way .row) (way .window) (way .first) (way .fall) × (other < (sheetOf (now words)) .rows) × SmallLine (capAlong (methodOf (way .method)) (sheetOf (now words)) (now bounds) (now drops) (way .row)) (way .most) (cap .value) (cap .slope) (cap .limit) × Laid (now words) ⌝ }
     ensures { λ r. ⌜ SmallLine (termAlong (methodOf (way .method)) (sheetOf (now (words .entry))) (now (bounds .entry)) (now (drops .entry)) (way .row) other) (way .most) (r .value) (r .slope) (r .limit) ⌝ }
 {
     let at = 3 * (other as usize);
@@ -178,7 +179,7 @@ pub fn other_line(
     way: Way,
     cap: Line,
 ) -> Line
-    requires { ⌜ OnWay (now words) (now bounds) (now drops) (way .row) (way .most) × Aimed (sheetOf (now words)) (now bounds) (now drops) (way .row) (way .window) (way .first) (way .fall) × (other < rowCount (now words)) × SmallLine (capAlong (methodOf (way .method)) (sheetOf (now words)) (now bounds) (now drops) (way .row)) (way .most) (cap .value) (cap .slope) (cap .limit) ⌝ }
+    requires { ⌜ OnWay (sheetOf (now words)) (now bounds) (now drops) (way .row) (way .most) × Aimed (sheetOf (now words)) (now bounds) (now drops) (way .row) (way .window) (way .first) (way .fall) × (other < (sheetOf (now words)) .rows) × SmallLine (capAlong (methodOf (way .method)) (sheetOf (now words)) (now bounds) (now drops) (way .row)) (way .most) (cap .value) (cap .slope) (cap .limit) × Laid (now words) ⌝ }
     ensures { λ r. ⌜ SmallLine (addedAlong (methodOf (way .method)) (sheetOf (now (words .entry))) (now (bounds .entry)) (now (drops .entry)) (way .row) other) (way .most) (r .value) (r .slope) (r .limit) ⌝ }
 {
     if other == way.row {
@@ -200,7 +201,7 @@ pub fn sum_of_lines(
     way: Way,
     cap: Line,
 ) -> Line
-    requires { ⌜ OnWay (now words) (now bounds) (now drops) (way .row) (way .most) × Aimed (sheetOf (now words)) (now bounds) (now drops) (way .row) (way .window) (way .first) (way .fall) × (count ≡ rowCount (now words)) × SmallLine (capAlong (methodOf (way .method)) (sheetOf (now words)) (now bounds) (now drops) (way .row)) (way .most) (cap .value) (cap .slope) (cap .limit) ⌝ }
+    requires { ⌜ OnWay (sheetOf (now words)) (now bounds) (now drops) (way .row) (way .most) × Aimed (sheetOf (now words)) (now bounds) (now drops) (way .row) (way .window) (way .first) (way .fall) × (count ≡ (sheetOf (now words)) .rows) × SmallLine (capAlong (methodOf (way .method)) (sheetOf (now words)) (now bounds) (now drops) (way .row)) (way .most) (cap .value) (cap .slope) (cap .limit) × Laid (now words) ⌝ }
     ensures { λ r. ⌜ SumLine (sumAlong (methodOf (way .method)) (sheetOf (now (words .entry))) (now (bounds .entry)) (now (drops .entry)) (way .row)) (way .most) (r .value) (r .slope) (r .limit) ⌝ }
 {
     let mut value = 0;

@@ -13,10 +13,10 @@ ghost use lib.ListN.{length};
 ghost use Rattle.laws.specs.Bits.{bit};
 ghost use Rattle.model.specs.Answer.{methodOf, answer};
 ghost use Rattle.model.specs.Refine.{round, sweep, marks};
-ghost use Rattle.model.specs.Inner.{Held};
-ghost use Rattle.rows.specs.Words.{rowCount, sheetOf, foundOf, boundOr};
+ghost use Rattle.rows.specs.Words.{sheetOf, foundOf, boundOr};
+ghost use Rattle.rows.specs.Inner.{Laid};
 ghost use Rattle.refinement.specs.Question.{Ready};
-ghost use Rattle.refinement.specs.Inner.{isFound, AfterPass};
+ghost use Rattle.refinement.specs.Inner.{isFound, Running, AfterPass};
 ghost use Rattle.refinement.specs.Refinement.{askOf};
 
 // One row's bound by either method, RTA's by jumps, and 0 where there is none, with space for the other rows and for what each of them takes.
@@ -30,7 +30,7 @@ pub fn bound_quickly(
     others: &mut [u32],
     room: &mut [u32],
 ) -> u32
-    requires { ⌜ Ready (now words) (now bounds) × (row < rowCount (now words)) × (count ≡ rowCount (now words)) × (1 ≤ processors) × (processors ≤ 64) × (length (now others) ≡ 320) × (length (now room) ≡ count) ⌝ }
+    requires { ⌜ Ready (sheetOf (now words)) (now bounds) × (row < (sheetOf (now words)) .rows) × (count ≡ (sheetOf (now words)) .rows) × (1 ≤ processors) × (processors ≤ 64) × (length (now others) ≡ 320) × (length (now room) ≡ count) × Laid (now words) ⌝ }
     ensures { λ r. ⌜ r ≡ boundOr (foundOf (answer (methodOf method) (sheetOf (now (words .entry))) processors row (now (bounds .entry)))) 0 ⌝ }
 {
     if method == 0 {
@@ -50,7 +50,7 @@ pub fn answer_quickly(
     processors: u32,
     method: u32,
 ) -> Found
-    requires { ⌜ Ready (now words) (now bounds) × (row < rowCount (now words)) × (count ≡ rowCount (now words)) × (1 ≤ processors) × (processors ≤ 64) ⌝ }
+    requires { ⌜ Ready (sheetOf (now words)) (now bounds) × (row < (sheetOf (now words)) .rows) × (count ≡ (sheetOf (now words)) .rows) × (1 ≤ processors) × (processors ≤ 64) × Laid (now words) ⌝ }
     ensures { λ r. ⌜ r ≡ foundOf (answer (methodOf method) (sheetOf (now (words .entry))) processors row (now (bounds .entry))) ⌝ }
 {
     let mut others = [0u32; 320];
@@ -88,9 +88,9 @@ pub fn fill_turns(
     count: u32,
     next: &mut [u32],
 ) -> u64
-    requires { ⌜ Ready (now words) (now bounds) × (count ≡ rowCount (now words)) × (1 ≤ processors) × (length (now next) ≡ count) ⌝ }
-    ensures seen { λ r. ⌜ r ≡ marks (sheetOf (now (words .entry))) (askOf (now (words .entry)) processors method) (now (bounds .entry)) ⌝ }
-    ensures turned { λ r. ⌜ now (next .exit) ≡ round (sheetOf (now (words .entry))) (askOf (now (words .entry)) processors method) (now (bounds .entry)) ⌝ }
+    requires { ⌜ Ready (sheetOf (now words)) (now bounds) × (count ≡ (sheetOf (now words)) .rows) × (1 ≤ processors) × (length (now next) ≡ count) × Laid (now words) ⌝ }
+    ensures seen { λ r. ⌜ r ≡ marks (sheetOf (now (words .entry))) (askOf (sheetOf (now (words .entry))) processors method) (now (bounds .entry)) ⌝ }
+    ensures turned { λ r. ⌜ now (next .exit) ≡ round (sheetOf (now (words .entry))) (askOf (sheetOf (now (words .entry))) processors method) (now (bounds .entry)) ⌝ }
 {
     let mut seen = 0;
     let mut row = 0;
@@ -121,8 +121,8 @@ pub fn sweep_rows(
     others: &mut [u32],
     room: &mut [u32],
 ) -> Tally
-    requires { ⌜ Ready (now words) (now bounds) × (count ≡ rowCount (now words)) × (1 ≤ processors) × Held (sheetOf (now words)) (askOf (now words) processors method) (now bounds) × (processors ≤ 64) × (length (now others) ≡ 320) × (length (now room) ≡ count) × (length (now before) ≡ count) ⌝ }
-    ensures { λ r. ⌜ AfterPass (sheetOf (now (words .entry))) (askOf (now (words .entry)) processors method) (sweep (sheetOf (now (words .entry))) (askOf (now (words .entry)) processors method) (rowCount (now (words .entry)))) (now (bounds .entry)) (now (bounds .exit)) (r .moved) (r .seen) ⌝ }
+    requires { ⌜ Running (sheetOf (now words)) (now bounds) count processors method × (length (now others) ≡ 320) × (length (now room) ≡ count) × (length (now before) ≡ count) × Laid (now words) ⌝ }
+    ensures { λ r. ⌜ AfterPass (sheetOf (now (words .entry))) (askOf (sheetOf (now (words .entry))) processors method) (sweep (sheetOf (now (words .entry))) (askOf (sheetOf (now (words .entry))) processors method) ((sheetOf (now (words .entry))) .rows)) (now (bounds .entry)) (now (bounds .exit)) (r .moved) (r .seen) ⌝ }
 {
     let mut moved = false;
     let mut seen = 0;

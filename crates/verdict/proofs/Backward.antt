@@ -16,7 +16,6 @@ use Rattle.laws.proofs.Sum.{total-step, total-mono, total-within}
 use Rattle.model.specs.Sheet.{Sheet}
 use Rattle.model.specs.Demand.{rowDemand, demandOf, demand}
 use Rattle.model.proofs.Demand.{demand-before, demand-from}
-use Rattle.rows.specs.Words.{sheetOf}
 use Rattle.verdict.specs.Inner.{Given, Clear, groupDemand, NotesGiven}
 use Rattle.verdict.proofs.Sound.{demand-small, shorter-given}
 
@@ -97,6 +96,12 @@ unfolding groupDemand
 group-small s t g each =
     omega (arith, total-within _ 16_777_216 (min 4 (s .rows - 4 * g)) (λ j here. each (4 * g + j) (omega arith)))
 
+-- A group looked at, four rows or as many as are left of those counted, shows its demand.
+pub group-shown : (s : Sheet) (t g : ℕ) {count left size sum : ℕ} → count ≡ s .rows → left ≡ count - 4 * g → size ≡ min 4 left
+    → sum ≡ total (λ j. demandOf s t (4 * g + j)) size → sum ≡ groupDemand s t g
+unfolding groupDemand
+group-shown s t g counted is-left is-size is-sum = rw (is-left, counted) at (rw is-size at is-sum)
+
 -- What holds of every number noted holds after one is noted anew, if it holds of the new one.
 anew : (holds : ℕ → ℕ → Type 0) (notes : List ℕ) (g value : ℕ) → g < length notes → holds g value
     → ((k : ℕ) → k < 16 → holds k (getD notes k 0)) → (k : ℕ) → k < 16 → holds k (getD (set notes g value) k 0)
@@ -112,9 +117,9 @@ alike zero value k here = absurd (omega arith)
 alike (suc n) value zero here = refl
 alike (suc n) value (suc k) here = alike n value k (le-of-suc-le-suc here)
 
-module _ (words : List ℕ) (count t : ℕ) where
+module _ (s : Sheet) (count t : ℕ) where
   -- With nothing noted yet the most that four rows can demand stands for each group.
-  pub notes-first : Given words count t → NotesGiven words count t (replicate 16 16_777_217) (replicate 16 67_108_864)
+  pub notes-first : Given s count t → NotesGiven s count t (replicate 16 16_777_217) (replicate 16 67_108_864)
   notes-first given =
       record {
         given = given;
@@ -122,28 +127,28 @@ module _ (words : List ℕ) (count t : ℕ) where
         noted = record {
           room = refl;
           enough = λ g here.
-              le-trans (group-small (sheetOf words) t g (demand-small words count t given)) (le-of-eq (alike 16 67_108_864 g here));
+              le-trans (group-small s t g (demand-small s count t given)) (le-of-eq (alike 16 67_108_864 g here));
           small = λ g here. le-of-eq (sym (alike 16 67_108_864 g here));
         };
       }
 
   -- Notes hold in a shorter length too.
-  pub notes-shorter : (u : ℕ) (since most : List ℕ) → u ≤ t → NotesGiven words count t since most → NotesGiven words count u since most
+  pub notes-shorter : (u : ℕ) (since most : List ℕ) → u ≤ t → NotesGiven s count t since most → NotesGiven s count u since most
   notes-shorter u since most shorter notes =
       let noted = notes .noted in
       record {
-        given = shorter-given words count t (notes .given) u shorter;
+        given = shorter-given s count t (notes .given) u shorter;
         room = notes .room;
         noted = record {
           room = noted .room;
-          enough = λ g here. le-trans (group-mono (sheetOf words) g u t shorter) (noted .enough g here);
+          enough = λ g here. le-trans (group-mono s g u t shorter) (noted .enough g here);
           small = noted .small;
         };
       }
 
   -- They hold with a group noted anew.
-  pub notes-anew : (since most : List ℕ) (g value last : ℕ) → g < 16 → value ≡ groupDemand (sheetOf words) t g
-      → NotesGiven words count t since most → NotesGiven words count t (set since g last) (set most g value)
+  pub notes-anew : (since most : List ℕ) (g value last : ℕ) → g < 16 → value ≡ groupDemand s t g
+      → NotesGiven s count t since most → NotesGiven s count t (set since g last) (set most g value)
   notes-anew since most g value last here same notes =
       let noted = notes .noted in
       let room : g < length most = rw (noted .room) here in
@@ -152,8 +157,8 @@ module _ (words : List ℕ) (count t : ℕ) where
         room = length-set since g last ∙ notes .room;
         noted = record {
           room = length-set most g value ∙ noted .room;
-          enough = anew (λ k note. groupDemand (sheetOf words) t k ≤ note) most g value room (le-of-eq (sym same)) (noted .enough);
+          enough = anew (λ k note. groupDemand s t k ≤ note) most g value room (le-of-eq (sym same)) (noted .enough);
           small = anew (λ k note. note ≤ 67_108_864) most g value room
-              (rw same (group-small (sheetOf words) t g (demand-small words count t (notes .given)))) (noted .small);
+              (rw same (group-small s t g (demand-small s count t (notes .given)))) (noted .small);
         };
       }

@@ -1,7 +1,6 @@
 -- How far to look. No miss up to the busy length is no miss at all, so the busy length, or else the horizon, is the last length to look
 -- at, and with no miss up to it the busy length decides.
 use mathlib.Core.Path.{_≡_, refl, sym, _∙_, ap}
-use mathlib.Core.List.{List}
 use mathlib.Core.Option.{Option, none, some}
 use Prim.Native.Nat.{ℕ, _+_, _≤_, _<_}
 use native.Mathlib.Nat.{le-refl}
@@ -13,12 +12,12 @@ use Rattle.laws.specs.Search.{Searched}
 use Rattle.laws.proofs.Search.{least-means, least-fixed}
 use Rattle.model.specs.Sheet.{Sheet}
 use Rattle.model.specs.Demand.{demand, busy, busyLength, firstMiss, judged, verdict}
+use Rattle.model.proofs.Sheet.{periods-positive}
 use Rattle.model.proofs.Demand.{never-misses}
 use Rattle.rows.specs.declared.Found.{Found}
-use Rattle.rows.specs.Words.{sheetOf, foundOf}
+use Rattle.rows.specs.Words.{foundOf}
 use Rattle.verdict.specs.OneProcessor.{outcomeOf}
 use Rattle.verdict.specs.Inner.{BusyGiven, furthest, withoutMiss}
-use Rattle.verdict.proofs.Sound.{positive}
 
 -- The last length to look at, as the code finds it.
 furthest-found : (b : Option ℕ) (h : ℕ) → furthest (foundOf b) h ≡ orElse b h
@@ -57,19 +56,19 @@ module _ (s : Sheet) (positive : (i : ℕ) → i < s .rows → 1 ≤ s .period i
       (least-fixed (λ t. ltb t (demand s t)) 1 h none
       (λ u from below. le-ltb _ _ (clean h (busyLength s h) (least-means (λ t. eqb t (busy s t)) 1 h) early u from (omega arith))))
 
-module _ (words : List ℕ) (count horizon : ℕ) (found : Found) (given : BusyGiven words count horizon found) where
+module _ (s : Sheet) (count horizon : ℕ) (found : Found) (given : BusyGiven s count horizon found) where
   -- The last length to look at is the busy length, or else the horizon.
-  last : furthest found horizon ≡ orElse (busyLength (sheetOf words) horizon) horizon
+  last : furthest found horizon ≡ orElse (busyLength s horizon) horizon
   last = ap (λ (b : Found). furthest b horizon) (given .climbed) ∙ furthest-found _ _
 
   -- It lies from 1 to the horizon.
   pub last-bounds : (1 ≤ furthest found horizon) × (furthest found horizon ≤ horizon)
-  last-bounds = rw last (last-within (sheetOf words) horizon (given .from-one))
+  last-bounds = rw last (last-within s horizon (given .from-one))
 
   -- With no miss up to it the busy length decides.
-  pub decided : ((u : ℕ) → 1 ≤ u → u ≤ furthest found horizon → demand (sheetOf words) u ≤ u)
-      → withoutMiss found ≡ outcomeOf (verdict (sheetOf words) horizon)
+  pub decided : ((u : ℕ) → 1 ≤ u → u ≤ furthest found horizon → demand s u ≤ u)
+      → withoutMiss found ≡ outcomeOf (verdict s horizon)
   decided early =
       ap withoutMiss (given .climbed)
       ∙ sym (judged-found _)
-      ∙ sym (ap outcomeOf (clean-verdict _ (positive _ _ _ (given .given)) horizon (rw last at early)))
+      ∙ sym (ap outcomeOf (clean-verdict _ (periods-positive s (given .given .sizes)) horizon (rw last at early)))

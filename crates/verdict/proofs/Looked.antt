@@ -11,8 +11,22 @@ use Rattle.laws.proofs.Order.{below-or-from}
 use Rattle.laws.proofs.Sum.{total-step, total-same, total-fewer}
 use Rattle.model.specs.Sheet.{Sheet}
 use Rattle.model.specs.Demand.{demandOf, demand}
-use Rattle.verdict.specs.Inner.{nextDue, Clear}
-use Rattle.verdict.proofs.Row.{due-ahead, jobs-demand, jobs-same}
+use Rattle.verdict.specs.declared.Look.{Look}
+use Rattle.verdict.specs.Inner.{nextDue, lookOf, Clear}
+use Rattle.verdict.proofs.Row.{look-before, due-ahead, jobs-demand, jobs-same}
+
+-- A look at a row shows its demand.
+pub look-demand : (s : Sheet) (t i : ℕ) {look : Look} → look ≡ lookOf s t i → look .demand ≡ demandOf s t i
+unfolding lookOf
+look-demand s t i looked = ap (λ (look : Look). look .demand) looked
+
+-- In a length before the first deadline it shows none, and that deadline is the next.
+pub look-early : (s : Sheet) (t i : ℕ) → s .deadline i ≤ s .period i → t < s .deadline i
+    → record { demand = 0; since = 0; next = s .deadline i } ≡ lookOf s t i
+unfolding lookOf demandOf
+look-early s t i by-period early =
+    let facts = look-before (s .cost i) (s .deadline i) (s .period i) t by-period early in
+    rw (facts .0, facts .1, facts .2)
 
 -- The first rows, looked at in length t: their demand, which does not exceed t, and a length behind t, at most one behind the last, before
 -- which none of them has a deadline.

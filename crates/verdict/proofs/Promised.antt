@@ -1,21 +1,24 @@
 -- The answer keeps its promise, and the promise fixes the answer: the refusal by the table, the outcome by the verdict's meaning.
 use mathlib.Core.Path.{_≡_, refl, sym, _∙_, ap}
 use mathlib.Core.Bool.{Bool, true, false}
-use mathlib.Core.List.{List}
 use mathlib.Core.Logic.{_↔_}
 use Prim.Native.Nat.{ℕ, _≤_}
 use native.Mathlib.Omega.{arith}
 use borrow.Author.Tests.{eqb-true, eqb-false}
 use lib.Dec.{eqb}
+use Rattle.laws.specs.Choice.{unlessRefused}
 use Rattle.laws.proofs.Choice.{not-refused, is-refused, one-answer}
+use Rattle.model.specs.Sheet.{Sheet}
 use Rattle.model.specs.Demand.{Verdict, miss, fits, undecided, demand, verdict, Means}
+use Rattle.model.specs.Alike.{Alike}
+use Rattle.model.proofs.Alike.{verdict-alike}
 use Rattle.model.proofs.Demand.{allowed-verdict-means, verdict-fixed}
 use Rattle.rows.specs.declared.Refusal.{Refusal}
-use Rattle.rows.specs.Words.{sheetOf}
+use Rattle.rows.proofs.Alike.{laid-refusal-alike}
 use Rattle.verdict.specs.declared.Outcome.{Outcome}
 use Rattle.verdict.specs.declared.Outcome.the-variants.{Miss, Fits, Undecided}
 use Rattle.verdict.specs.declared.Answer.{Answer}
-use Rattle.verdict.specs.OneProcessor.{refusalOf, outcomeOf, verdictOf, outcomeNumber, outcomeValue, refusedAnswer, answered, oneProcessor, Promise, Testable}
+use Rattle.verdict.specs.OneProcessor.{oneProcessorRefusalOf, outcomeOf, verdictOf, outcomeNumber, outcomeValue, refusedAnswer, answered, oneProcessorOf, Testable, Promise}
 use Rattle.verdict.proofs.Checked.{checked, checked-passes}
 
 -- A verdict in the code's words is read back as itself, and an outcome too.
@@ -42,35 +45,37 @@ same-fields a b refusals places outcomes =
     made refusal place outcome = record { refusal = refusal; place = place; outcome = outcome }
 
 -- Refused, the answer is the refused one; not refused, what was worked out.
-pub answer-refused : (words : List ℕ) (h : ℕ) → ((refusalOf words h) .number ≡ 0 → ⊥)
-    → oneProcessor words h ≡ refusedAnswer (refusalOf words h)
-unfolding oneProcessor
-answer-refused words h one-holds = is-refused _ _ _ one-holds
+pub answer-refused : (refusal : Refusal) (s : Sheet) (h : ℕ) → (refusal .number ≡ 0 → ⊥) → oneProcessorOf refusal s h ≡ refusedAnswer refusal
+unfolding oneProcessorOf
+answer-refused refusal s h one-holds = is-refused _ _ _ one-holds
 
-pub answer-worked : (words : List ℕ) (h : ℕ) → (refusalOf words h) .number ≡ 0
-    → oneProcessor words h ≡ answered (verdict (sheetOf words) h)
-unfolding oneProcessor
-answer-worked words h none-holds = not-refused _ _ _ none-holds
+pub answer-worked : (refusal : Refusal) (s : Sheet) (h : ℕ) → refusal .number ≡ 0 → oneProcessorOf refusal s h ≡ answered (verdict s h)
+unfolding oneProcessorOf
+answer-worked refusal s h none-holds = not-refused _ _ _ none-holds
 
 -- The answer keeps the promise.
-pub keeps : (words : List ℕ) (h : ℕ) → Promise words h (oneProcessor words h)
+pub keeps : (broken : Bool) (s : Sheet) (h : ℕ)
+    → let refusal = oneProcessorRefusalOf broken s h in Promise refusal s h (oneProcessorOf refusal s h)
 unfolding refusedAnswer answered
-keeps words h = split (eqb ((refusalOf words h) .number) 0) refl
+keeps broken s h = split (eqb (refusal .number) 0) refl
   where
-    split : (b : Bool) → eqb ((refusalOf words h) .number) 0 ≡ b → Promise words h (oneProcessor words h)
+    refusal : Refusal
+    refusal = oneProcessorRefusalOf broken s h
+
+    split : (b : Bool) → eqb (refusal .number) 0 ≡ b → Promise refusal s h (oneProcessorOf refusal s h)
     split true is-zero =
-        let zero : (refusalOf words h) .number ≡ 0 = eqb-true _ 0 is-zero in
-        let facts = checked words h zero in
-        rw (answer-worked words h zero)
+        let zero : refusal .number ≡ 0 = eqb-true _ 0 is-zero in
+        let facts = checked broken s h zero in
+        rw (answer-worked refusal s h zero)
         (record {
           number = sym zero;
-          place = sym (ap (λ (r : Refusal). r .place) (checked-passes words h facts));
-          means = λ none-holds. rw verdict-back (allowed-verdict-means (sheetOf words) (facts .sound .allowed) h);
+          place = sym (ap (λ (r : Refusal). r .place) (checked-passes broken s h facts));
+          means = λ none-holds. rw verdict-back (allowed-verdict-means s (facts .sizes) h);
           nothing = λ one-holds. absurd (one-holds refl);
         })
     split false not-zero =
-        let one-holds : (refusalOf words h) .number ≡ 0 → ⊥ = eqb-false _ 0 not-zero in
-        rw (answer-refused words h one-holds)
+        let one-holds : refusal .number ≡ 0 → ⊥ = eqb-false _ 0 not-zero in
+        rw (answer-refused refusal s h one-holds)
         (record {
           number = refl;
           place = refl;
@@ -79,47 +84,55 @@ keeps words h = split (eqb ((refusalOf words h) .number) 0) refl
         })
 
 -- It is not refused exactly where everything asked for holds.
-pub one-processor-not-refused : (words : List ℕ) (h : ℕ) → ((oneProcessor words h) .refusal ≡ 0) ↔ Testable words h
-one-processor-not-refused words h = (
-  λ zero. checked words h (sym (keeps words h .number) ∙ zero),
-  λ facts. keeps words h .number ∙ ap (λ (r : Refusal). r .number) (checked-passes words h facts),
+pub one-processor-not-refused : (broken : Bool) (s : Sheet) (h : ℕ)
+    → ((oneProcessorOf (oneProcessorRefusalOf broken s h) s h) .refusal ≡ 0) ↔ Testable broken s h
+one-processor-not-refused broken s h = (
+  λ zero. checked broken s h (sym (keeps broken s h .number) ∙ zero),
+  λ facts. keeps broken s h .number ∙ ap (λ (r : Refusal). r .number) (checked-passes broken s h facts),
 )
 
 -- Whatever keeps the promise is the answer.
-pub fixes : (words : List ℕ) (h : ℕ) (a : Answer) → Promise words h a → a ≡ oneProcessor words h
+pub fixes : (broken : Bool) (s : Sheet) (h : ℕ) (a : Answer)
+    → let refusal = oneProcessorRefusalOf broken s h in Promise refusal s h a → a ≡ oneProcessorOf refusal s h
 unfolding refusedAnswer answered
-fixes words h a promise = split (eqb ((refusalOf words h) .number) 0) refl
+fixes broken s h a promise = split (eqb (refusal .number) 0) refl
   where
-    split : (b : Bool) → eqb ((refusalOf words h) .number) 0 ≡ b → a ≡ oneProcessor words h
+    refusal : Refusal
+    refusal = oneProcessorRefusalOf broken s h
+
+    split : (b : Bool) → eqb (refusal .number) 0 ≡ b → a ≡ oneProcessorOf refusal s h
     split true is-zero =
-        let zero : (refusalOf words h) .number ≡ 0 = eqb-true _ 0 is-zero in
-        let refusal : a .refusal ≡ 0 = promise .number ∙ zero in
-        same-fields a (answered (verdict (sheetOf words) h)) refusal
-        (promise .place ∙ ap (λ (r : Refusal). r .place) (checked-passes words h (checked words h zero)))
-        (sym (ap outcomeOf (verdict-fixed (sheetOf words) h (verdictOf (a .outcome)) (promise .means refusal)) ∙ outcome-back (a .outcome)))
-        ∙ sym (answer-worked words h zero)
+        let zero : refusal .number ≡ 0 = eqb-true _ 0 is-zero in
+        let not-refused : a .refusal ≡ 0 = promise .number ∙ zero in
+        same-fields a (answered (verdict s h)) not-refused
+        (promise .place ∙ ap (λ (r : Refusal). r .place) (checked-passes broken s h (checked broken s h zero)))
+        (sym (ap outcomeOf (verdict-fixed s h (verdictOf (a .outcome)) (promise .means not-refused)) ∙ outcome-back (a .outcome)))
+        ∙ sym (answer-worked refusal s h zero)
     split false not-zero =
-        let one-holds : (refusalOf words h) .number ≡ 0 → ⊥ = eqb-false _ 0 not-zero in
-        same-fields a (refusedAnswer (refusalOf words h)) (promise .number) (promise .place)
+        let one-holds : refusal .number ≡ 0 → ⊥ = eqb-false _ 0 not-zero in
+        same-fields a (refusedAnswer refusal) (promise .number) (promise .place)
         (promise .nothing (λ zero. one-holds (sym (promise .number) ∙ zero)))
-        ∙ sym (answer-refused words h one-holds)
+        ∙ sym (answer-refused refusal s h one-holds)
 
 -- Any two results that the contract allows are equal.
-pub one-result : (words : List ℕ) (h : ℕ) (a b : Answer) → a ≡ oneProcessor words h → b ≡ oneProcessor words h → a ≡ b
-one-result words h a b first second = one-answer first second
+pub one-result : (refusal : Refusal) (s : Sheet) (h : ℕ) (a b : Answer) → a ≡ oneProcessorOf refusal s h → b ≡ oneProcessorOf refusal s h → a ≡ b
+one-result refusal s h a b first second = one-answer first second
 
 -- "Fits" is said only where no length at all demands more than its length, whatever the horizon.
-pub fits-for-ever : (words : List ℕ) (h b : ℕ) → (oneProcessor words h) .outcome ≡ Fits b
-    → (t : ℕ) → 1 ≤ t → demand (sheetOf words) t ≤ t
+pub fits-for-ever : (broken : Bool) (s : Sheet) (h b : ℕ) → (oneProcessorOf (oneProcessorRefusalOf broken s h) s h) .outcome ≡ Fits b
+    → (t : ℕ) → 1 ≤ t → demand s t ≤ t
 unfolding verdictOf
-fits-for-ever words h b says = split (eqb ((oneProcessor words h) .refusal) 0) refl
+fits-for-ever broken s h b says = split (eqb (answer .refusal) 0) refl
   where
-    split : (zero : Bool) → eqb ((oneProcessor words h) .refusal) 0 ≡ zero → (t : ℕ) → 1 ≤ t → demand (sheetOf words) t ≤ t
+    answer : Answer
+    answer = oneProcessorOf (oneProcessorRefusalOf broken s h) s h
+
+    split : (zero : Bool) → eqb (answer .refusal) 0 ≡ zero → (t : ℕ) → 1 ≤ t → demand s t ≤ t
     split true is-zero =
-        let meant : Means (sheetOf words) h (verdictOf (Fits b)) = rw says at (keeps words h .means (eqb-true _ 0 is-zero)) in
+        let meant : Means s h (verdictOf (Fits b)) = rw says at (keeps broken s h .means (eqb-true _ 0 is-zero)) in
         meant .never-over
     split false not-zero =
-        let silent : (oneProcessor words h) .outcome ≡ Undecided = keeps words h .nothing (eqb-false _ 0 not-zero) in
+        let silent : answer .outcome ≡ Undecided = keeps broken s h .nothing (eqb-false _ 0 not-zero) in
         let never : _≡_ {A = ℕ} 0 1 = cc in
         absurd (omega arith)
 
@@ -137,7 +150,17 @@ numbers-fix Undecided (Fits u) numbers values = absurd (omega arith)
 numbers-fix Undecided Undecided numbers values = refl
 
 -- Refused, every number but the refusal's own number and place is 0.
-pub refused-zeros : (words : List ℕ) (h : ℕ) → ((refusalOf words h) .number ≡ 0 → ⊥)
-    → (outcomeNumber ((oneProcessor words h) .outcome) ≡ 0) × (outcomeValue ((oneProcessor words h) .outcome) ≡ 0)
+pub refused-zeros : (refusal : Refusal) (s : Sheet) (h : ℕ) → (refusal .number ≡ 0 → ⊥)
+    → (outcomeNumber ((oneProcessorOf refusal s h) .outcome) ≡ 0) × (outcomeValue ((oneProcessorOf refusal s h) .outcome) ≡ 0)
 unfolding refusedAnswer outcomeNumber outcomeValue
-refused-zeros words h one-holds = rw (answer-refused words h one-holds) (refl, refl)
+refused-zeros refusal s h one-holds = rw (answer-refused refusal s h one-holds) (refl, refl)
+
+-- Alike sheets are refused alike, and an equal refusal and alike sheets give an equal answer.
+pub one-processor-refusal-alike : (s t : Sheet) → Alike s t → (broken : Bool) (h : ℕ) → oneProcessorRefusalOf broken s h ≡ oneProcessorRefusalOf broken t h
+unfolding oneProcessorRefusalOf
+one-processor-refusal-alike s t alike broken h = laid-refusal-alike s t alike broken _
+
+pub one-processor-alike : (s t : Sheet) → Alike s t → (refusal : Refusal) (h : ℕ) → oneProcessorOf refusal s h ≡ oneProcessorOf refusal t h
+unfolding oneProcessorOf
+one-processor-alike s t alike refusal h =
+    ap (λ (v : Verdict). unlessRefused (refusal .number) (refusedAnswer refusal) (answered v)) (verdict-alike s t alike h)

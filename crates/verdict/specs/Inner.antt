@@ -1,39 +1,36 @@
 -- What only inner functions cite: no user need believe it.
 use mathlib.Core.Path.{_≡_}
 use mathlib.Core.List.{List}
-use Prim.Native.Nat.{ℕ, _+_, _-_, _/_, _≤_}
-use Prim.Native.Nat.{_*_, _<_, min}
+use Prim.Native.Nat.{ℕ, _+_, _*_, _-_, _/_, _≤_, _<_, min}
 use lib.Dec.{ltb}
 use lib.ListN.{length, getD}
 use Rattle.laws.specs.Choice.{pick}
 use Rattle.laws.specs.Sum.{total}
-use Rattle.model.specs.Sheet.{Sheet}
-use Rattle.model.specs.Demand.{busyLength}
-use Rattle.model.specs.Demand.{demandOf, demand}
+use Rattle.model.specs.Sheet.{Sheet, Allowed}
+use Rattle.model.specs.Demand.{demandOf, demand, busyLength}
 use Rattle.rows.specs.declared.Found.{Found}
 use Rattle.rows.specs.declared.Found.the-variants.{At, Nowhere}
-use Rattle.rows.specs.Words.{rowCount, sheetOf, foundOf}
-use Rattle.rows.specs.Checks.{SoundRows}
+use Rattle.rows.specs.Words.{foundOf}
 use Rattle.verdict.specs.declared.Look.{Look}
 use Rattle.verdict.specs.declared.Outcome.{Outcome}
 use Rattle.verdict.specs.declared.Outcome.the-variants.{Fits, Undecided}
 
--- Sound words, how many rows they hold, and a length that no horizon allowed exceeds.
-pub record Given (words : List ℕ) (count t : ℕ) : Type 0 where
-  pub sound : SoundRows words
-  pub counted : count ≡ rowCount words
+-- An allowed sheet, how many rows it has, and a length that no horizon allowed exceeds.
+pub record Given (s : Sheet) (count t : ℕ) : Type 0 where
+  pub sizes : Allowed s
+  pub counted : count ≡ s .rows
   pub within : t ≤ 16_777_216
 
 -- The same with a horizon of at least 1 and the busy length, if it is within it.
-pub record BusyGiven (words : List ℕ) (count horizon : ℕ) (busy : Found) : Type 0 where
-  pub given : Given words count horizon
+pub record BusyGiven (s : Sheet) (count horizon : ℕ) (busy : Found) : Type 0 where
+  pub given : Given s count horizon
   pub from-one : 1 ≤ horizon
-  pub climbed : busy ≡ foundOf (busyLength (sheetOf words) horizon)
+  pub climbed : busy ≡ foundOf (busyLength s horizon)
 
--- Sound words, the place of one of their rows, and such a length.
-pub record RowGiven (words : List ℕ) (row t : ℕ) : Type 0 where
-  pub sound : SoundRows words
-  pub here : row < rowCount words
+-- An allowed sheet, the place of one of its rows, and such a length.
+pub record RowGiven (s : Sheet) (row t : ℕ) : Type 0 where
+  pub sizes : Allowed s
+  pub here : row < s .rows
   pub within : t ≤ 16_777_216
 
 -- The jobs of a row with deadline d and period p that are due within t.
@@ -64,10 +61,10 @@ withoutMiss Nowhere = Undecided
 abbrev pub Clear : Sheet → ℕ → ℕ → Type 0
 Clear s low high = (u : ℕ) → low < u → u ≤ high → demand s u ≤ u
 
--- Sound words, so many of their rows from a place on, and such a length.
-pub record GroupGiven (words : List ℕ) (first size t : ℕ) : Type 0 where
-  pub sound : SoundRows words
-  pub here : size ≤ rowCount words - first
+-- An allowed sheet, so many of its rows from a place on, and such a length.
+pub record GroupGiven (s : Sheet) (first size t : ℕ) : Type 0 where
+  pub sizes : Allowed s
+  pub here : size ≤ s .rows - first
   pub within : t ≤ 16_777_216
 
 -- The rows go in groups of four, the last group perhaps of fewer: what group g demands in length t.
@@ -80,11 +77,11 @@ pub record Noted (s : Sheet) (t : ℕ) (most : List ℕ) : Type 0 where
   pub enough : (g : ℕ) → g < 16 → groupDemand s t g ≤ getD most g 0
   pub small : (g : ℕ) → g < 16 → getD most g 0 ≤ 67_108_864
 
--- Sound words, a length, notes that hold in it, and the lengths that say when to note anew, of which any will do.
-pub record NotesGiven (words : List ℕ) (count t : ℕ) (since most : List ℕ) : Type 0 where
-  pub given : Given words count t
+-- An allowed sheet, a length, notes that hold in it, and the lengths that say when to note anew, of which any will do.
+pub record NotesGiven (s : Sheet) (count t : ℕ) (since most : List ℕ) : Type 0 where
+  pub given : Given s count t
   pub room : length since ≡ 16
-  pub noted : Noted (sheetOf words) t most
+  pub noted : Noted s t most
 
 -- The gap between two ends made narrower: what its lower end has passed is clear.
 pub record Narrower (s : Sheet) (clear stopped lower upper : ℕ) : Type 0 where

@@ -1,13 +1,14 @@
--- One processor, exact: the whole answer to lent words and a horizon, and what it promises.
+-- One processor, exact: the whole answer to rows and a horizon, and what it promises.
 use mathlib.Core.Path.{_≡_}
-use mathlib.Core.List.{List}
+use mathlib.Core.Bool.{Bool, false}
+use mathlib.Core.List.{List, [], _∷_}
 use Prim.Native.Nat.{ℕ, _≤_}
 use Rattle.laws.specs.Choice.{pick, unlessRefused}
-use Rattle.model.specs.Sheet.{horizonAllowed}
+use Rattle.model.specs.Sheet.{Sheet, Allowed, horizonAllowed}
 use Rattle.model.specs.Demand.{Verdict, miss, fits, undecided, verdict, Means}
 use Rattle.rows.specs.declared.Refusal.{Refusal}
 use Rattle.rows.specs.Words.{sheetOf}
-use Rattle.rows.specs.Checks.{wordsRefusal, SoundRows}
+use Rattle.rows.specs.Checks.{firstHeld, laidRefusal, notWhole}
 use Rattle.verdict.specs.declared.Outcome.{Outcome}
 use Rattle.verdict.specs.declared.Outcome.the-variants.{Miss, Fits, Undecided}
 use Rattle.verdict.specs.declared.Answer.{Answer}
@@ -17,8 +18,8 @@ unfoldable pub horizonRefusal : ℕ → ℕ
 horizonRefusal horizon = pick (horizonAllowed horizon) 0 6
 
 -- The checks that apply, in number order: 2, 3, 6, 8.
-unfoldable pub refusalOf : List ℕ → ℕ → Refusal
-refusalOf words horizon = wordsRefusal words (horizonRefusal horizon)
+unfoldable pub oneProcessorRefusalOf : Bool → Sheet → ℕ → Refusal
+oneProcessorRefusalOf broken s horizon = laidRefusal broken s (firstHeld (horizonRefusal horizon ∷ []))
 
 -- The three answers in the code's words: miss t, fits b, undecided.
 unfoldable pub outcomeOf : Verdict → Outcome
@@ -51,23 +52,25 @@ refusedAnswer refusal = record { refusal = refusal .number; place = refusal .pla
 unfoldable pub answered : Verdict → Answer
 answered v = record { refusal = 0; place = 0; outcome = outcomeOf v }
 
--- The whole answer.
-unfoldable pub oneProcessor : List ℕ → ℕ → Answer
-oneProcessor words horizon =
-    unlessRefused ((refusalOf words horizon) .number)
-    (refusedAnswer (refusalOf words horizon))
-    (answered (verdict (sheetOf words) horizon))
+-- The whole answer, by what the checks gave and by the sheet.
+unfoldable pub oneProcessorOf : Refusal → Sheet → ℕ → Answer
+oneProcessorOf refusal s horizon = unlessRefused (refusal .number) (refusedAnswer refusal) (answered (verdict s horizon))
 
--- What a test that is not refused was given: sound rows and a horizon from 1 to 16,777,216.
-pub record Testable (words : List ℕ) (horizon : ℕ) : Type 0 where
-  pub sound : SoundRows words
+-- The whole answer of rows in a word list.
+abbrev pub oneProcessor : List ℕ → ℕ → Answer
+oneProcessor words horizon = oneProcessorOf (oneProcessorRefusalOf (notWhole words) (sheetOf words) horizon) (sheetOf words) horizon
+
+-- What a test that is not refused was given: a layout that is not broken, a sheet of allowed sizes and a horizon from 1 to 16,777,216.
+pub record Testable (broken : Bool) (s : Sheet) (horizon : ℕ) : Type 0 where
+  pub laid : broken ≡ false
+  pub sizes : Allowed s
   pub from-one : 1 ≤ horizon
   pub within : horizon ≤ 16_777_216
 
--- What an answer promises: it is refused exactly as the table says; not refused, its outcome means what document 01 says of it;
+-- What an answer promises: it is refused exactly as the checks say; not refused, its outcome means what document 01 says of it;
 -- refused, it says nothing more.
-pub record Promise (words : List ℕ) (horizon : ℕ) (a : Answer) : Type 0 where
-  pub number : a .refusal ≡ (refusalOf words horizon) .number
-  pub place : a .place ≡ (refusalOf words horizon) .place
-  pub means : a .refusal ≡ 0 → Means (sheetOf words) horizon (verdictOf (a .outcome))
+pub record Promise (refusal : Refusal) (s : Sheet) (horizon : ℕ) (a : Answer) : Type 0 where
+  pub number : a .refusal ≡ refusal .number
+  pub place : a .place ≡ refusal .place
+  pub means : a .refusal ≡ 0 → Means s horizon (verdictOf (a .outcome))
   pub nothing : (a .refusal ≡ 0 → ⊥) → a .outcome ≡ Undecided

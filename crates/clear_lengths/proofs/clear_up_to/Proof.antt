@@ -1,4 +1,4 @@
--- `demand::clear::clear_up_to` meets its contract. The loop's invariant: all is clear up to the lower end of a gap within the range, and
+-- `clear_lengths::clear_up_to` meets its contract. The loop's invariant: all is clear up to the lower end of a gap within the range, and
 -- the next length to try lies before its upper end. The measure is the gap.
 use Prim.Native.Nat.{_+_, _-_, _≤_, _<_}
 use native.Mathlib.Omega.{arith}
@@ -17,7 +17,7 @@ abbrev μ-loop : tie.MeasureT-loop
 μ-loop words count last clear₀ stopped₀ middle₀ clear stopped middle = stopped - clear
 
 add-stopped : tie.Need-add-stopped Inv-loop μ-loop
-add-stopped c = let within = c .before .pre .within in omega arith
+add-stopped c = let within = c .before .pre .0 .within in omega arith
 
 loop-holds : tie.Need-loop-holds Inv-loop μ-loop
 loop-holds c = (omega arith, omega arith, omega arith, λ u from upto. absurd (omega arith))
@@ -25,7 +25,7 @@ loop-holds c = (omega arith, omega arith, omega arith, λ u from upto. absurd (o
 narrowed-requires : tie.Need-narrowed-requires Inv-loop μ-loop
 narrowed-requires c κs =
     let p = c .before .before .before in
-    (shorter-given _ _ _ (p .pre) _ (omega arith), c .loop-test .taken, c .before .loop .inv .2)
+    (shorter-given _ _ _ (p .pre .0) _ (omega arith), c .loop-test .taken, c .before .loop .inv .2, p .pre .1)
 
 sub-middle : tie.Need-sub-middle Inv-loop μ-loop
 sub-middle c = let gap = c .narrowed .ensures in omega arith
@@ -33,7 +33,7 @@ sub-middle c = let gap = c .narrowed .ensures in omega arith
 add-middle : tie.Need-add-middle Inv-loop μ-loop
 add-middle c =
     let gap = c .narrowed .ensures in
-    let within = c .before .before .before .before .pre .within in
+    let within = c .before .before .before .before .pre .0 .within in
     omega arith
 
 loop-less : tie.Need-loop-less Inv-loop μ-loop

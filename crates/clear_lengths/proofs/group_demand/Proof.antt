@@ -1,13 +1,9 @@
--- `demand::clear::group_demand` meets its contract: what is noted is not too little, and what is noted anew is the group's demand.
+-- `clear_lengths::group_demand` meets its contract: what is noted is not too little, and what is noted anew is the group's demand.
 use borrow.Author.Needs.{needs}
-use mathlib.Core.Path.{_≡_, sym, _∙_, ap}
-use Prim.Native.Nat.{ℕ, _*_, _-_, min}
+use mathlib.Core.Path.{sym}
 use native.Mathlib.Nat.{le-of-eq}
-use Rattle.laws.specs.Sum.{total}
-use Rattle.rows.specs.Words.{sheetOf}
-use Rattle.verdict.specs.Inner.{groupDemand}
-use Rattle.verdict.proofs.Sound.{counted, demand-small}
-use Rattle.verdict.proofs.Backward.{group-small, notes-anew}
+use Rattle.verdict.proofs.Sound.{demand-small}
+use Rattle.verdict.proofs.Backward.{group-shown, group-small, notes-anew}
 use Rattle.clear_lengths.proofs.group_demand.Statement.{statement}
 use Rattle.clear_lengths.proofs.group_demand.Tie as tie
 
@@ -59,26 +55,14 @@ same-length c = search needs
 same-length-2 : tie.Need-same-length-2
 same-length-2 c = search needs
 
--- Looked at anew, the group shows its demand.
-exact : (c : tie.After-look-at-group)
-    → let p = c .before .before .before .before .before .before .before .before .args in
-    c .look-at-group .result .demand ≡ groupDemand (sheetOf (p .words .now)) (p .length) (p .group)
-unfolding groupDemand
-exact c =
-    let p = c .before .before .before .before .before .before .before .before in
-    c .look-at-group .ensures
-    ∙ ap (total _)
-    (c .before .lesser .ensures
-    ∙ ap (min 4) (c .before .before .less .ensures ∙ ap (λ (rows : ℕ). rows - 4 * p .args .group) (counted _ _ _ (p .pre .0 .given))))
-
 returns-2 : tie.Need-returns-2
 returns-2 c =
-    let p = c .before .before .before .before .before .before .before .before in (
-      (
-        le-of-eq (sym (exact c)),
-        rw (exact c) (group-small _ _ (p .args .group) (demand-small _ _ _ (p .pre .0 .given))),
-      ),
-      notes-anew _ _ _ _ _ (p .args .group) _ _ (p .pre .1) (exact c) (p .pre .0),
+    let p = c .before .before .before .before .before .before .before .before in
+    let given = p .pre .0 .given in
+    let exact =
+    group-shown _ _ (p .args .group) (given .counted) (c .before .before .less .ensures) (c .before .lesser .ensures) (c .look-at-group .ensures) in (
+      (le-of-eq (sym exact), rw exact (group-small _ _ (p .args .group) (demand-small _ _ _ given))),
+      notes-anew _ _ _ _ _ (p .args .group) _ _ (p .pre .1) exact (p .pre .0),
     )
 
 pub group-demand-spec : {M : Type 1} → statement M

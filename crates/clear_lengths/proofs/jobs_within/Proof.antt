@@ -1,4 +1,4 @@
--- `demand::jobs::jobs_within` meets its contract: by the test that the definition makes.
+-- `clear_lengths::jobs_within` meets its contract: by the test that the definition makes.
 use mathlib.Core.Path.{sym}
 use Prim.Native.Nat.{_-_}
 use native.Mathlib.Nat.{div-le-self}

@@ -1,31 +1,15 @@
--- `demand::jobs::look_at` meets its contract: a row's demand is its jobs, each of its cost, and both numbers stay near the length.
+-- `clear_lengths::look_at` meets its contract: a row's demand is its jobs, each of its cost, and both numbers stay near the length.
 use borrow.Author.Needs.{needs}
-use Prim.Native.Nat.{_+_, _*_, _≤_}
 use native.Mathlib.Omega.{arith}
-use lib.ListN.{getD}
-use denote.Ref.{now}
 use Rattle.model.specs.Sheet.{triples}
 use Rattle.model.specs.Demand.{demandOf}
-use Rattle.model.proofs.Sheet.{SizedRow}
 use Rattle.rows.specs.Words.{sheetOf}
 use Rattle.verdict.specs.Inner.{nextDue, lookOf}
-use Rattle.verdict.proofs.Row.{jobs-demand, look-before, look-small}
-use Rattle.verdict.proofs.Sound.{row-words}
+use Rattle.verdict.proofs.Row.{jobs-demand}
+use Rattle.verdict.proofs.Looked.{look-early}
+use Rattle.verdict.proofs.Sound.{row-sizes, row-look-small}
 use Rattle.clear_lengths.proofs.look_at.Statement.{statement}
 use Rattle.clear_lengths.proofs.look_at.Tie as tie
-
--- The row's sizes, as they stand in the words.
-sizes : (s : tie.Start) → let words = now (s .args .words) in
-    SizedRow (getD words (3 * s .args .row) 0) (getD words (3 * s .args .row + 1) 0) (getD words (3 * s .args .row + 2) 0)
-sizes s = row-words _ _ _ (s .pre)
-
--- The row's demand and its next deadline are small.
-small : (c : tie.After-jobs-within) → let s = c .before .before .before .before .before in
-    let words = now (s .args .words) in
-    (c .jobs-within .result * getD words (3 * s .args .row) 0 ≤ 16_777_216)
-    × (getD words (3 * s .args .row + 1) 0 + c .jobs-within .result * getD words (3 * s .args .row + 2) 0 ≤ 17_777_216)
-small c =
-    let s = c .before .before .before .before .before in rw (c .jobs-within .ensures) (look-small _ _ _ _ (sizes s) (s .pre .within))
 
 mul-at : tie.Need-mul-at
 mul-at c = search needs
@@ -40,13 +24,8 @@ shared-slice-read-deadline : tie.Need-shared-slice-read-deadline
 shared-slice-read-deadline c = search needs
 
 returns : tie.Need-returns
-unfolding lookOf demandOf sheetOf triples
-returns c =
-    let s = c .before .before .before in
-    let words = now (s .args .words) in
-    let at = 3 * s .args .row in
-    let early = look-before (getD words at 0) (getD words (at + 1) 0) (getD words (at + 2) 0) (s .args .length) (sizes s .within-period) (c .if1 .taken) in
-    rw (early .0, early .1, early .2)
+unfolding sheetOf triples
+returns c = let s = c .before .before .before in look-early _ _ _ (row-sizes _ _ _ (s .pre .0) .within-period) (c .if1 .taken)
 
 add-period : tie.Need-add-period
 add-period c = search needs
@@ -58,10 +37,11 @@ shared-slice-read-period : tie.Need-shared-slice-read-period
 shared-slice-read-period c = search needs
 
 jobs-within-requires : tie.Need-jobs-within-requires
+unfolding sheetOf triples
 jobs-within-requires c κs =
     let s = c .before .before .before .before in
-    let row = sizes s in
-    (omega arith, s .pre .within)
+    let row = row-sizes _ _ _ (s .pre .0) in
+    (omega arith, s .pre .0 .within)
 
 mul-demand : tie.Need-mul-demand
 mul-demand c = search needs
@@ -70,13 +50,22 @@ shared-slice-read-demand : tie.Need-shared-slice-read-demand
 shared-slice-read-demand c = search needs
 
 mul-demand-2 : tie.Need-mul-demand-2
-mul-demand-2 c = let bounds = small (c .before) in omega arith
+unfolding sheetOf triples
+mul-demand-2 c =
+    let jobs = c .before in
+    omega (arith, row-look-small _ _ _ (jobs .before .before .before .before .before .pre .0) (jobs .jobs-within .ensures))
 
 mul-next : tie.Need-mul-next
-mul-next c = let bounds = small (c .before) in omega arith
+unfolding sheetOf triples
+mul-next c =
+    let jobs = c .before in
+    omega (arith, row-look-small _ _ _ (jobs .before .before .before .before .before .pre .0) (jobs .jobs-within .ensures))
 
 add-next : tie.Need-add-next
-add-next c = let bounds = small (c .before) in omega arith
+unfolding sheetOf triples
+add-next c =
+    let jobs = c .before in
+    omega (arith, row-look-small _ _ _ (jobs .before .before .before .before .before .pre .0) (jobs .jobs-within .ensures))
 
 less-requires : tie.Need-less-requires
 less-requires c κs = search needs

@@ -1,4 +1,4 @@
--- `demand::clear::narrowed` meets its contract: backward steps that came down to the lower end clear all up to where they began, and where
+-- `clear_lengths::narrowed` meets its contract: backward steps that came down to the lower end clear all up to where they began, and where
 -- they stopped before is the new upper end.
 use borrow.Author.Needs.{needs}
 use native.Mathlib.Omega.{arith}
@@ -13,7 +13,9 @@ slice-aggregate-clear-down-to-2 : tie.Need-slice-aggregate-clear-down-to-2
 slice-aggregate-clear-down-to-2 c = search needs
 
 clear-down-to-requires : tie.Need-clear-down-to-requires
-clear-down-to-requires c κs = notes-first _ _ _ (c .before .before .before .pre .0)
+clear-down-to-requires c κs =
+    let p = c .before .before .before in
+    (notes-first _ _ _ (p .pre .0), p .pre .3)
 
 returns : tie.Need-returns
 returns c =

@@ -1,23 +1,23 @@
--- `demand::clear::noted_demand` meets its contract. The loop's invariant: the groups passed are summed up, and the notes hold.
+-- `clear_lengths::noted_demand` meets its contract. The loop's invariant: the groups passed are summed up, and the notes hold.
 use borrow.Author.Needs.{needs}
 use Prim.Native.Nat.{_-_, _<_}
 use native.Mathlib.Omega.{arith}
+use Rattle.model.proofs.Sheet.{allowed-count}
 use Rattle.rows.specs.Words.{sheetOf}
 use Rattle.verdict.specs.Inner.{NotesGiven}
-use Rattle.verdict.proofs.Sound.{counted, few-rows}
 use Rattle.verdict.proofs.Backward.{Summed, summed-none, summed-more, summed-all}
 use Rattle.clear_lengths.proofs.noted_demand.Statement.{statement}
 use Rattle.clear_lengths.proofs.noted_demand.Tie as tie
 
 abbrev Inv-loop : tie.InvT-loop
 Inv-loop words count length since₀ most₀ sum₀ group₀ since most sum group =
-    Summed (sheetOf words) length group sum × NotesGiven words count length since most
+    Summed (sheetOf words) length group sum × NotesGiven (sheetOf words) count length since most
 
 abbrev μ-loop : tie.MeasureT-loop
 μ-loop words count length since₀ most₀ sum₀ group₀ since most sum group = 16 - group
 
 loop-holds : tie.Need-loop-holds Inv-loop μ-loop
-loop-holds c = (summed-none _ _, c .before .before .before .pre)
+loop-holds c = (summed-none _ _, c .before .before .before .pre .0)
 
 mul-loop : tie.Need-mul-loop Inv-loop μ-loop
 mul-loop c = let few = c .loop .inv .0 .few in omega arith
@@ -26,10 +26,12 @@ mul-loop c = let few = c .loop .inv .0 .few in omega arith
 here : (c : tie.In-loop Inv-loop μ-loop) → c .before .loop .group < 16
 here c =
     let given = c .before .loop .inv .1 .given in
-    omega (arith, counted _ _ _ given, few-rows _ _ _ given)
+    omega (arith, given .counted, allowed-count _ (given .sizes .count))
 
 group-demand-requires : tie.Need-group-demand-requires Inv-loop μ-loop
-group-demand-requires c κs = (c .before .before .before .loop .inv .1, here (c .before .before))
+group-demand-requires c κs =
+    let q = c .before .before .before in
+    (q .loop .inv .1, here (c .before .before), q .before .before .before .before .pre .1)
 
 add-sum : tie.Need-add-sum Inv-loop μ-loop
 add-sum c =
@@ -48,7 +50,7 @@ loop-again c =
     let q = c .before .before .before .before .before .before .before .before .loop in
     let known = c .before .before .before .before .group-demand .ensures in
     let given = q .inv .1 .given in (
-      summed-more _ _ (q .group) (q .sum) _ (few-rows _ _ _ given) (omega (arith, counted _ _ _ given)) (q .inv .0) (known .0 .0)
+      summed-more _ _ (q .group) (q .sum) _ (allowed-count _ (given .sizes .count) .1) (omega (arith, given .counted)) (q .inv .0) (known .0 .0)
           (known .0 .1),
       known .1,
     )
@@ -62,7 +64,7 @@ same-length-2 c = search needs
 returns : tie.Need-returns Inv-loop μ-loop
 returns c =
     let q = c .before .loop in
-    (summed-all _ _ (q .group) _ (omega (arith, counted _ _ _ (q .inv .1 .given))) (q .inv .0), q .inv .1)
+    (summed-all _ _ (q .group) _ (omega (arith, q .inv .1 .given .counted)) (q .inv .0), q .inv .1)
 
 pub noted-demand-spec : {M : Type 1} → statement M
 noted-demand-spec =

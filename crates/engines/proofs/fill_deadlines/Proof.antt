@@ -1,6 +1,6 @@
 -- `fill_deadlines` stores each deadline behind those before it, until all are listed.
 use borrow.Author.Needs.{needs}
-use mathlib.Core.Path.{_≡_, sym, _∙_, ap}
+use mathlib.Core.Path.{_≡_, _∙_, ap}
 use mathlib.Core.List.{_++_}
 use Prim.Native.Nat.{_-_, _≤_}
 use lib.ListN.{length, drop, length-set}
@@ -9,7 +9,6 @@ use Rattle.laws.specs.Fill.{listed}
 use Rattle.laws.proofs.Fill.{listed-none, listed-more, listed-all}
 use Rattle.model.specs.Refine.{deadlines}
 use Rattle.rows.specs.Words.{sheetOf}
-use Rattle.rows.proofs.Words.{sheet-rows}
 use native.Mathlib.Omega.{arith}
 use Rattle.engines.proofs.fill_deadlines.Statement.{statement}
 use Rattle.engines.proofs.fill_deadlines.Tie as tie
@@ -61,7 +60,7 @@ returns c =
     let q = c .before .loop in
     let done : q .row ≡ p .args .count = omega arith in
     listed-all _ (q .row) (now (p .args .bounds)) (q .bounds) (omega (arith, p .pre .1)) (q .inv .2)
-    ∙ ap (listed _) (done ∙ p .pre .0 ∙ sym (sheet-rows (now (p .args .words))))
+    ∙ ap (listed _) (done ∙ p .pre .0)
 
 pub fill-deadlines-spec : {M : Type 1} → statement M
 fill-deadlines-spec =

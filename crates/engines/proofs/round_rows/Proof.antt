@@ -1,6 +1,5 @@
 -- `round_rows` fills in every turn from the bounds at its start, and copies them back.
 use borrow.Author.Needs.{needs}
-use denote.Ref.{now}
 use Rattle.refinement.proofs.Steps.{ask-regular, round-done}
 use Rattle.engines.proofs.round_rows.Statement.{statement}
 use Rattle.engines.proofs.round_rows.Tie as tie
@@ -21,7 +20,7 @@ returns : tie.Need-returns
 returns c =
     let p = c .before .before .before .before .before .before .before .before .before .before .before .before .before in
     let filled = c .before .before .before .before .before .before .before .fill-turns in (
-      round-done _ _ (ask-regular (now (p .args .words)) (p .args .processors) (p .args .method)) _ _ _ _ _ (p .pre .3) (filled .ensures .1)
+      round-done _ _ (ask-regular _ (p .args .processors) (p .args .method)) _ _ _ _ _ (p .pre .0 .held) (filled .ensures .1)
           (c .before .before .copy-back .ensures) (filled .ensures .0),
       search needs,
     )

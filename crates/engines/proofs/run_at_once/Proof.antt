@@ -1,33 +1,34 @@
--- `run_at_once` starts from the deadlines, which are ready and hold what bounds on the way hold.
+-- `run_at_once` starts from the deadlines, which are on the way to its end.
 use borrow.Author.Needs.{needs}
 use mathlib.Core.Path.{_≡_, refl, sym}
-use denote.Ref.{now}
-use Prim.Native.Nat.{ℕ}
+use Prim.Native.Nat.{ℕ, _≤_}
 use lib.ListN.{length, take, replicate}
 use lib.Seq.{length-take-le}
 use native.Mathlib.Omega.{arith}
-use Rattle.model.proofs.Refine.{deadlines-held}
-use Rattle.rows.specs.Words.{sheetOf}
-use Rattle.refinement.proofs.Steps.{ask-regular}
-use Rattle.refinement.proofs.Refinement.{deadlines-ready}
+use Rattle.model.proofs.Sheet.{few-rows}
+use Rattle.refinement.proofs.Refinement.{running-first}
 use Rattle.engines.proofs.run_at_once.Statement.{statement}
 use Rattle.engines.proofs.run_at_once.Tie as tie
 
 fill-deadlines-requires : tie.Need-fill-deadlines-requires
 fill-deadlines-requires c κs = search needs
 
+-- The rows counted fit the space.
+fits : (s : tie.Start) → s .args .count ≤ 64
+fits s = omega (arith, few-rows _ (s .pre .0))
+
 array-borrow-prefix-before : tie.Need-array-borrow-prefix-before
-array-borrow-prefix-before c = search needs
+array-borrow-prefix-before c = fits (c .before .before .before .before .before .before .before)
 
 -- One word of the space for each row.
 space : (s : tie.Start) → length (take (s .args .count) (replicate {A = ℕ} 64 0)) ≡ s .args .count
-space s = length-take-le (s .args .count) (replicate 64 0) (omega (arith, s .pre .1, s .pre .0 .at-most))
+space s = length-take-le (s .args .count) (replicate 64 0) (fits s)
 
 slice-aggregate-settle-at-once : tie.Need-slice-aggregate-settle-at-once
 slice-aggregate-settle-at-once c = sym (space (c .before .before .before .before .before .before .before .before))
 
 array-borrow-prefix-drops : tie.Need-array-borrow-prefix-drops
-array-borrow-prefix-drops c = search needs
+array-borrow-prefix-drops c = fits (c .before .before .before .before .before .before .before .before)
 
 slice-aggregate-settle-at-once-2 : tie.Need-slice-aggregate-settle-at-once-2
 slice-aggregate-settle-at-once-2 c = sym (space (c .before .before .before .before .before .before .before .before .before))
@@ -36,7 +37,7 @@ slice-aggregate-settle-at-once-3 : tie.Need-slice-aggregate-settle-at-once-3
 slice-aggregate-settle-at-once-3 c = refl
 
 array-borrow-prefix-room : tie.Need-array-borrow-prefix-room
-array-borrow-prefix-room c = search needs
+array-borrow-prefix-room c = fits (c .before .before .before .before .before .before .before .before .before .before)
 
 slice-aggregate-settle-at-once-4 : tie.Need-slice-aggregate-settle-at-once-4
 slice-aggregate-settle-at-once-4 c = sym (space (c .before .before .before .before .before .before .before .before .before .before .before))
@@ -44,17 +45,13 @@ slice-aggregate-settle-at-once-4 c = sym (space (c .before .before .before .befo
 settle-at-once-requires : tie.Need-settle-at-once-requires
 settle-at-once-requires c κs =
     let p = c .before .before .before .before .before .before .before .before .before .before .before in
-    let words = now (p .args .words) in
     rw (c .before .before .before .before .before .before .before .fill-deadlines .ensures) (
-      deadlines-ready words (p .pre .0),
-      p .pre .1,
-      p .pre .2,
-      deadlines-held (sheetOf words) _ (ask-regular words (p .args .processors) (p .args .method)),
+      running-first _ _ _ _ (p .pre .0) (p .pre .1) (p .pre .2) (p .pre .4),
       space p,
       space p,
-      p .pre .4,
       refl,
       space p,
+      p .pre .5,
     )
 
 same-length : tie.Need-same-length

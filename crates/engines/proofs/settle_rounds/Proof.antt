@@ -3,20 +3,18 @@ use mathlib.Core.Path.{_≡_, sym, _∙_}
 use denote.Ref.{now}
 use borrow.Author.Tests.{not-true, not-false}
 use lib.ListN.{length}
-use Rattle.model.specs.Inner.{Held}
 use Rattle.model.proofs.Refine.{round-pass}
 use Rattle.model.proofs.Engines.{round-settled}
 use Rattle.rows.specs.Words.{sheetOf}
-use Rattle.refinement.specs.Refinement.{askOf}
-use Rattle.refinement.specs.Question.{Ready}
-use Rattle.refinement.specs.Inner.{boundsSum}
+use Rattle.refinement.specs.Refinement.{finalBounds, finalMarks}
+use Rattle.refinement.specs.Inner.{Running, boundsSum}
 use Rattle.refinement.proofs.Steps.{ask-regular, pass-on, reached}
 use Rattle.engines.proofs.settle_rounds.Statement.{statement}
 use Rattle.engines.proofs.settle_rounds.Tie as tie
 
 abbrev Inv-loop : tie.InvT-loop
 Inv-loop words bounds₀ next₀ processors method count bounds next =
-    Ready words bounds × Held (sheetOf words) (askOf words processors method) bounds × (length next ≡ count)
+    Running (sheetOf words) bounds count processors method × (length next ≡ count)
 
 abbrev μ-loop : tie.MeasureT-loop
 μ-loop words bounds₀ next₀ processors method count bounds next = boundsSum (sheetOf words) bounds
@@ -24,40 +22,39 @@ abbrev μ-loop : tie.MeasureT-loop
 loop-holds : tie.Need-loop-holds Inv-loop μ-loop
 loop-holds c =
     let p = c .before .before .before in
-    (p .pre .0, p .pre .3, p .pre .4)
+    (p .pre .0, p .pre .1)
 
 round-rows-requires : tie.Need-round-rows-requires Inv-loop μ-loop
 round-rows-requires c κs =
     let p = c .before .before .before .before .before .before in
     let inv = c .before .before .loop .inv in
-    (inv .0, p .pre .1, p .pre .2, inv .1, inv .2)
+    (inv .0, inv .1, p .pre .2)
 
--- What holds of the bounds holds of those a round leaves.
+-- The bounds that a round leaves are on the way too.
 after : (c : tie.After-round-rows Inv-loop μ-loop) → let p = c .before .before .before .before .before .before .before in
-    Ready (now (p .args .words)) (c .round-rows .last .1 .0)
-    × Held (sheetOf (now (p .args .words))) (askOf (now (p .args .words)) (p .args .processors) (p .args .method)) (c .round-rows .last .1 .0)
+    Running (sheetOf (now (p .args .words))) (c .round-rows .last .1 .0) (p .args .count) (p .args .processors) (p .args .method)
 after c =
     let p = c .before .before .before .before .before .before .before in
-    let inv = c .before .before .before .loop .inv in
-    let regular = ask-regular (now (p .args .words)) (p .args .processors) (p .args .method) in
-    pass-on _ _ regular _ (round-pass _ _ regular) _ _ (inv .0) (inv .1) (c .round-rows .ensures .0 .exact)
+    pass-on _ _ _ _ _ _ _ (round-pass _ _ (ask-regular _ (p .args .processors) (p .args .method))) (c .before .before .before .loop .inv .0)
+    (c .round-rows .ensures .0 .exact)
 
 same-length : tie.Need-same-length Inv-loop μ-loop
 same-length c =
     let q = c .before .before .before .before .before in
-    after q .0 .one-each ∙ sym (q .before .before .before .before .before .before .before .pre .0 .one-each)
+    after q .ready .one-each ∙ sym (q .before .before .before .before .before .before .before .pre .0 .ready .one-each)
 
 same-length-2 : tie.Need-same-length-2 Inv-loop μ-loop
 same-length-2 c =
     let q = c .before .before .before .before .before in
-    q .round-rows .ensures .1 ∙ sym (q .before .before .before .before .before .before .before .pre .4)
+    q .round-rows .ensures .1 ∙ sym (q .before .before .before .before .before .before .before .pre .1)
 
 returns : tie.Need-returns Inv-loop μ-loop
+unfolding finalMarks finalBounds
 returns c =
     let q = c .before .before .before .before .before in
     let p = q .before .before .before .before .before .before .before in
     reached _ _ _ _ _ _ _ _ (q .round-rows .ensures .0) (not-true _ (c .if1 .taken))
-    (round-settled _ _ (ask-regular (now (p .args .words)) (p .args .processors) (p .args .method)) _ (q .before .before .before .loop .inv .1))
+    (round-settled _ _ (ask-regular _ (p .args .processors) (p .args .method)) _ (q .before .before .before .loop .inv .0 .held))
 
 loop-less : tie.Need-loop-less Inv-loop μ-loop
 loop-less c = c .before .before .before .before .before .round-rows .ensures .0 .lower (not-false _ (c .if1 .left))
@@ -65,7 +62,7 @@ loop-less c = c .before .before .before .before .before .round-rows .ensures .0 
 loop-again : tie.Need-loop-again Inv-loop μ-loop
 loop-again c =
     let q = c .before .before .before .before .before in
-    (after q .0, after q .1, q .round-rows .ensures .1)
+    (after q, q .round-rows .ensures .1)
 
 pub settle-rounds-spec : {M : Type 1} → statement M
 settle-rounds-spec =

@@ -2,12 +2,10 @@
 use borrow.Author.Needs.{needs}
 use mathlib.Core.Path.{_∙_, ap, ap₂}
 use Prim.Native.Nat.{min}
-use denote.Ref.{now}
+use Rattle.model.proofs.Sheet.{row-sized}
 use Rattle.model.specs.Sheet.{triples}
 use Rattle.model.specs.Interference.{share, shareOf, bclTerm}
 use Rattle.rows.specs.Words.{sheetOf}
-use Rattle.rows.proofs.Words.{cost-word, deadline-word, period-word}
-use Rattle.rows.proofs.Checks.{sound-row}
 use native.Mathlib.Omega.{arith}
 use Rattle.interference.proofs.capped_share.Statement.{statement}
 use Rattle.interference.proofs.capped_share.Tie as tie
@@ -46,14 +44,11 @@ shared-slice-read-share-in-window-3 : tie.Need-shared-slice-read-share-in-window
 shared-slice-read-share-in-window-3 c = search needs
 
 share-in-window-requires : tie.Need-share-in-window-requires
+unfolding sheetOf triples
 share-in-window-requires c κs =
     let p = c .before .before .before .before .before .before in
-    let words = now (p .args .words) in
-    let sized = sound-row words (p .pre .0 .rows) (p .args .other) (p .pre .2) in
-    let own = sound-row words (p .pre .0 .rows) (p .args .row) (p .pre .1) in
-    let cost = cost-word words (p .args .other) in
-    let deadline = deadline-word words (p .args .other) in
-    let period = period-word words (p .args .other) in
+    let sized = row-sized _ (p .pre .0 .rows) (p .args .other) (p .pre .2) in
+    let own = row-sized _ (p .pre .0 .rows) (p .args .row) (p .pre .1) in
     omega (arith, p .pre .3 .by-deadline)
 
 lesser-requires : tie.Need-lesser-requires

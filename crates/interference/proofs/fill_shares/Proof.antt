@@ -6,12 +6,11 @@ use mathlib.Core.List.{List, _++_}
 use Prim.Native.Nat.{ℕ, _-_, _+_, _≤_}
 use lib.ListN.{length, drop, set, length-set}
 use denote.Ref.{now}
+use Rattle.model.proofs.Sheet.{row-sized}
 use Rattle.laws.specs.Fill.{listed}
 use Rattle.laws.proofs.Fill.{listed-none, listed-more, listed-all, listed-unless}
 use Rattle.model.specs.Interference.{bclTerm}
 use Rattle.rows.specs.Words.{sheetOf}
-use Rattle.rows.proofs.Words.{sheet-rows}
-use Rattle.rows.proofs.Checks.{sound-row}
 use Rattle.refinement.specs.Inner.{shares}
 use Rattle.interference.proofs.fill_shares.Statement.{statement}
 use Rattle.interference.proofs.fill_shares.Tie as tie
@@ -32,12 +31,12 @@ cost-requires c κs = search needs
 sub-cap : tie.Need-sub-cap Inv-loop μ-loop
 sub-cap c =
     let p = c .before .before .before .before .before in
-    let sized = sound-row (now (p .args .words)) (p .pre .0 .rows) (p .args .row) (p .pre .1) in omega arith
+    let sized = row-sized _ (p .pre .0 .rows) (p .args .row) (p .pre .1) in omega arith
 
 add-cap : tie.Need-add-cap Inv-loop μ-loop
 add-cap c =
     let p = c .before .before .before .before .before in
-    let sized = sound-row (now (p .args .words)) (p .pre .0 .rows) (p .args .row) (p .pre .1) in omega arith
+    let sized = row-sized _ (p .pre .0 .rows) (p .args .row) (p .pre .1) in omega arith
 
 loop-holds : tie.Need-loop-holds Inv-loop μ-loop
 loop-holds c = (omega arith, c .before .before .before .before .before .pre .3, listed-none _ _)
@@ -45,7 +44,7 @@ loop-holds c = (omega arith, c .before .before .before .before .before .pre .3, 
 capped-share-requires : tie.Need-capped-share-requires Inv-loop μ-loop
 capped-share-requires c κs =
     let p = c .before .before .before .before .before .before .before in
-    (p .pre .0, p .pre .1, omega (arith, p .pre .2), record { by-deadline = c .before .before .before .deadline .ensures; by-cost = ap₂ (λ d c. d - c + 1) (c .before .before .before .deadline .ensures) (c .before .before .cost .ensures) })
+    (p .pre .0, p .pre .1, omega (arith, p .pre .2), record { by-deadline = c .before .before .before .deadline .ensures; by-cost = ap₂ (λ d c. d - c + 1) (c .before .before .before .deadline .ensures) (c .before .before .cost .ensures) }, p .pre .4)
 
 cast-out : tie.Need-cast-out Inv-loop μ-loop
 cast-out c = search needs
@@ -91,10 +90,10 @@ unfolding shares
 returns c =
     let p = c .before .before .before .before .before .before .before in
     let q = c .before .loop in
-    let done : q .other ≡ (sheetOf (now (p .args .words))) .rows = omega (arith, p .pre .2, sheet-rows (now (p .args .words))) in
+    let done : q .other ≡ (sheetOf (now (p .args .words))) .rows = omega (arith, p .pre .2) in
     ap (λ (l : List ℕ). set l (p .args .row) 0)
     (listed-all _ (q .other) (now (p .args .out)) (q .out) (omega (arith, p .pre .3)) (q .inv .2) ∙ ap (listed _) done)
-    ∙ listed-unless _ _ (p .args .row) (omega (arith, p .pre .1, sheet-rows (now (p .args .words))))
+    ∙ listed-unless _ _ (p .args .row) (omega (arith, p .pre .1))
 
 pub fill-shares-spec : {M : Type 1} → statement M
 fill-shares-spec =

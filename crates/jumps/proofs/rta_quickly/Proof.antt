@@ -9,13 +9,12 @@ use Prim.Native.Nat.{ℕ, _+_, _-_, _≤_, _<_}
 use native.Mathlib.Nat.{le-antisymm}
 use lib.ListN.{length}
 use denote.Ref.{now}
+use Rattle.model.proofs.Sheet.{row-sized}
 use Rattle.laws.proofs.Climb.{Climbed, climbed-first}
 use Rattle.model.specs.Interference.{rtaRight}
 use Rattle.model.proofs.Interference.{rtaRight-from-cost}
 use Rattle.model.proofs.Answer.{climb-found, climb-none}
 use Rattle.rows.specs.Words.{sheetOf, foundOf, boundOr}
-use Rattle.rows.proofs.Words.{sheet-rows}
-use Rattle.rows.proofs.Checks.{sound-row}
 use Rattle.refinement.specs.Inner.Kept.{Kept, Tried, keptSum, Met}
 use Rattle.refinement.proofs.Kept.{met-kept}
 use Rattle.refinement.proofs.Exclusion.{right-stands, climb-on}
@@ -40,12 +39,12 @@ deadline-requires : tie.Need-deadline-requires Inv-loop μ-loop
 deadline-requires c κs = search needs
 
 meet-others-requires : tie.Need-meet-others-requires Inv-loop μ-loop
-meet-others-requires c κs = let p = c .before .before .before .before .before .before .before in (p .pre .0, p .pre .1, p .pre .2, c .before .deadline .ensures, p .pre .5)
+meet-others-requires c κs = let p = c .before .before .before .before .before .before .before in (p .pre .0, p .pre .1, p .pre .2, c .before .deadline .ensures, p .pre .5, p .pre .7)
 
 loop-holds : tie.Need-loop-holds Inv-loop μ-loop
 loop-holds c =
     let p = c .before .before .before .before .before .before .before .before .before .before in
-    let sized = sound-row (now (p .args .words)) (p .pre .0 .rows) (p .args .row) (p .pre .1) in
+    let sized = row-sized _ (p .pre .0 .rows) (p .args .row) (p .pre .1) in
     rw (c .before .before .before .before .before .cost .ensures) (
       climbed-first _ _ (rtaRight-from-cost _ _ _ _ _),
       sized .by-deadline,
@@ -60,7 +59,7 @@ tried : (c : tie.After-deadline Inv-loop μ-loop) → let p = c .before .before 
     (x : ℕ) → s .cost (p .args .row) ≤ x → x ≤ s .deadline (p .args .row) → Tried (c .before .cost .result) (c .deadline .result) x
 tried c x from by =
     let p = c .before .before .before .before .before .before in
-    let sized = sound-row (now (p .args .words)) (p .pre .0 .rows) (p .args .row) (p .pre .1) in
+    let sized = row-sized _ (p .pre .0 .rows) (p .args .row) (p .pre .1) in
     let own = c .before .cost .ensures in
     let top = c .deadline .ensures in
     record { some-cost = omega (arith, sized .positive); from-cost = omega arith; by-deadline = omega arith; small = omega arith }
@@ -105,7 +104,7 @@ onward-requires c κs =
       tried (c .before .before .before .before .before .before .before .before .before .before .before) _ (omega (arith, q .inv .0 .from, goes .0)) (omega (arith, goes .1, c .before .before .before .before .before .before .before .before .before .before .before .deadline .ensures)),
       p .pre .3,
       p .pre .4,
-      omega (arith, leapt .0 .1, q .inv .4 .fewer, q .inv .2, p .pre .2, sheet-rows (now (p .args .words))),
+      omega (arith, leapt .0 .1, q .inv .4 .fewer, q .inv .2, p .pre .2),
     )
 
 -- And where the next number is.

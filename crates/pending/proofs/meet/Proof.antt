@@ -3,15 +3,14 @@ use borrow.Author.Needs.{needs}
 use native.Mathlib.Omega.{arith}
 use mathlib.Core.Path.{_≡_, refl, _∙_, sym}
 use mathlib.Core.Logic.{⊎-elim}
-use Prim.Native.Nat.{ℕ, _+_, _*_, _-_, _≤_, _<_}
+use Prim.Native.Nat.{ℕ, _+_, _-_, _≤_, _<_}
 use lib.ListN.{getD}
 use denote.Ref.{now}
+use Rattle.model.proofs.Sheet.{row-sized, few-rows}
 use Rattle.laws.specs.Sum.{total}
 use Rattle.laws.proofs.Sum.{total-step}
 use Rattle.model.specs.Sheet.{triples}
-use Rattle.rows.specs.Words.{rowCount, sheetOf}
-use Rattle.rows.proofs.Words.{deadline-word}
-use Rattle.rows.proofs.Checks.{sound-row}
+use Rattle.rows.specs.Words.{sheetOf}
 use Rattle.refinement.specs.Inner.{termOf, shareIn}
 use Rattle.refinement.specs.Inner.Kept.{termFrom, KeptNumbers, KeptOf, keptSum}
 use Rattle.refinement.proofs.Limits.{share-within}
@@ -38,14 +37,14 @@ loop-holds : tie.Need-loop-holds Inv-loop μ-loop
 loop-holds c = let p = c .before .before .before in (omega arith, p .pre .1, p .pre .4, λ x cap window some-cap. refl)
 
 -- The place is a row's.
-inside : (c : tie.In-loop Inv-loop μ-loop) → c .before .loop .place < rowCount (now (c .before .before .before .before .before .args .words))
+inside : (c : tie.In-loop Inv-loop μ-loop) → c .before .loop .place < (sheetOf (now (c .before .before .before .before .before .args .words))) .rows
 inside c = omega (arith, c .before .before .before .before .before .pre .2)
 
 cast-row : tie.Need-cast-row Inv-loop μ-loop
-cast-row c = omega (arith, inside c, c .before .before .before .before .before .pre .0 .rows .at-most)
+cast-row c = omega (arith, inside c, few-rows _ (c .before .before .before .before .before .pre .0 .rows))
 
 mul-row : tie.Need-mul-row Inv-loop μ-loop
-mul-row c = omega (arith, inside c, c .before .before .before .before .before .pre .0 .rows .at-most)
+mul-row c = omega (arith, inside c, few-rows _ (c .before .before .before .before .before .pre .0 .rows))
 
 mul-own : tie.Need-mul-own Inv-loop μ-loop
 mul-own c = search needs
@@ -81,30 +80,32 @@ shared-slice-read-share-in-window : tie.Need-shared-slice-read-share-in-window I
 shared-slice-read-share-in-window c = search needs
 
 share-in-window-requires : tie.Need-share-in-window-requires Inv-loop μ-loop
+unfolding sheetOf triples
 share-in-window-requires c κs = let p = c .before .before .before .before .before .before .before .before .before in let q = c .before .before .before .before .before .loop in let known = sizes _ _ (p .pre .0) (q .place) (inside (c .before .before .before .before)) in
-    let sized = sound-row (now (p .args .words)) (p .pre .0 .rows) (q .place) (inside (c .before .before .before .before)) in
-    let deadline = deadline-word (now (p .args .words)) (q .place) in
+    let sized = row-sized _ (p .pre .0 .rows) (q .place) (inside (c .before .before .before .before)) in
     omega (arith, known .some-cost, known .by-period, known .small, p .pre .3)
 
 rise-of-requires : tie.Need-rise-of-requires Inv-loop μ-loop
 rise-of-requires c κs = search needs
 
 sub-put-row : tie.Need-sub-put-row Inv-loop μ-loop
+unfolding sheetOf triples
 sub-put-row c = let p = c .before .before .before .before .before .before .before .before .before .before .before .before in let q = c .before .before .before .before .before .before .before .before .loop in let known = sizes _ _ (p .pre .0) (q .place) (inside (c .before .before .before .before .before .before .before)) in omega (arith, known .from-cost)
 
 -- The numbers of the row are as an allowed row has them.
 numbers : (c : tie.After-rise-of Inv-loop μ-loop) → let p = c .before .before .before .before .before .before .before .before .before .before .before in
-    let words = now (p .args .words) in
+    let s = sheetOf (now (p .args .words)) in
     let i = c .before .before .before .before .before .before .before .loop .place in
-    KeptNumbers (getD words (3 * i) 0) (getD words (3 * i + 2) 0) (getD (now (p .args .bounds)) i 0 - getD words (3 * i) 0) (c .before .share-in-window .result) (c .rise-of .result)
+    KeptNumbers (s .cost i) (s .period i) (getD (now (p .args .bounds)) i 0 - s .cost i) (c .before .share-in-window .result) (c .rise-of .result)
+unfolding sheetOf triples
 numbers c =
     let p = c .before .before .before .before .before .before .before .before .before .before .before in
     let i = c .before .before .before .before .before .before .before .loop .place in
-    let words = now (p .args .words) in
+    let s = sheetOf (now (p .args .words)) in
     let known = sizes _ _ (p .pre .0) i (inside (c .before .before .before .before .before .before)) in
-    let ahead : getD words (3 * i) 0 + (getD (now (p .args .bounds)) i 0 - getD words (3 * i) 0) ≡ getD (now (p .args .bounds)) i 0 = omega (arith, known .from-cost) in
+    let ahead : s .cost i + (getD (now (p .args .bounds)) i 0 - s .cost i) ≡ getD (now (p .args .bounds)) i 0 = omega (arith, known .from-cost) in
     let small : c .before .share-in-window .result ≤ 1_000_000 =
-    omega (arith, c .before .share-in-window .ensures, share-within (getD words (3 * i) 0) (getD words (3 * i + 1) 0) (getD words (3 * i + 2) 0) (getD (now (p .args .bounds)) i 0) (p .args .window) (known .by-period), p .pre .3) in
+    omega (arith, c .before .share-in-window .ensures, share-within (s .cost i) (s .deadline i) (s .period i) (getD (now (p .args .bounds)) i 0) (p .args .window) (known .by-period), p .pre .3) in
     record {
       sizes = rw ahead known;
       small-share = small;
@@ -115,31 +116,31 @@ numbers c =
 -- What it adds is one more of what the rows add.
 gathered : (c : tie.After-rise-of Inv-loop μ-loop) (x cap : ℕ) → 1 ≤ x → 1 ≤ cap → let p = c .before .before .before .before .before .before .before .before .before .before .before in
     let q = c .before .before .before .before .before .before .before .loop in
-    let words = now (p .args .words) in
-    let own = getD words (3 * q .place) 0 in
-    keptSum (q .others) (q .left) (q .settled) x cap + termFrom own (getD words (3 * q .place + 2) 0) (getD (now (p .args .bounds)) (q .place) 0 - own) (c .before .share-in-window .result) x cap + total (termOf (sheetOf words) (now (p .args .bounds)) (shareIn (sheetOf words) (now (p .args .bounds)) (p .args .window)) x cap) (p .args .from)
-    ≡ keptSum (now (p .args .others)) (p .args .before .left) (p .args .before .settled) x cap + total (termOf (sheetOf words) (now (p .args .bounds)) (shareIn (sheetOf words) (now (p .args .bounds)) (p .args .window)) x cap) (q .place + 1)
+    let s = sheetOf (now (p .args .words)) in
+    let own = s .cost (q .place) in
+    keptSum (q .others) (q .left) (q .settled) x cap + termFrom own (s .period (q .place)) (getD (now (p .args .bounds)) (q .place) 0 - own) (c .before .share-in-window .result) x cap + total (termOf s (now (p .args .bounds)) (shareIn s (now (p .args .bounds)) (p .args .window)) x cap) (p .args .from)
+    ≡ keptSum (now (p .args .others)) (p .args .before .left) (p .args .before .settled) x cap + total (termOf s (now (p .args .bounds)) (shareIn s (now (p .args .bounds)) (p .args .window)) x cap) (q .place + 1)
 unfolding shareIn sheetOf triples
 gathered c x cap window some-cap =
     let p = c .before .before .before .before .before .before .before .before .before .before .before in
     let q = c .before .before .before .before .before .before .before .loop in
-    let words = now (p .args .words) in
-    let own = getD words (3 * q .place) 0 in
+    let s = sheetOf (now (p .args .words)) in
+    let own = s .cost (q .place) in
     let bound = getD (now (p .args .bounds)) (q .place) 0 in
     let known = sizes _ _ (p .pre .0) (q .place) (inside (c .before .before .before .before .before .before)) in
-    let adds = termOf (sheetOf words) (now (p .args .bounds)) (shareIn (sheetOf words) (now (p .args .bounds)) (p .args .window)) x cap in
-    let term : termFrom own (getD words (3 * q .place + 2) 0) (bound - own) (c .before .share-in-window .result) x cap ≡ adds (q .place) =
-    rw (c .before .share-in-window .ensures) (term-numbers (sheetOf words) (now (p .args .bounds)) (shareIn (sheetOf words) (now (p .args .bounds)) (p .args .window)) x cap (q .place) (known .from-cost)) in
+    let adds = termOf s (now (p .args .bounds)) (shareIn s (now (p .args .bounds)) (p .args .window)) x cap in
+    let term : termFrom own (s .period (q .place)) (bound - own) (c .before .share-in-window .result) x cap ≡ adds (q .place) =
+    rw (c .before .share-in-window .ensures) (term-numbers s (now (p .args .bounds)) (shareIn s (now (p .args .bounds)) (p .args .window)) x cap (q .place) (known .from-cost)) in
     omega (arith, q .inv .3 x cap window some-cap, total-step adds (q .place), term)
 
 put-row-requires : tie.Need-put-row-requires Inv-loop μ-loop
-put-row-requires c κs = (c .before .before .before .before .before .before .before .before .loop .inv .2 .rows .sized, omega (arith, c .before .before .before .before .before .before .before .before .loop .inv .2 .small, inside (c .before .before .before .before .before .before .before), c .before .before .before .before .before .before .before .before .before .before .before .before .pre .0 .rows .at-most))
+put-row-requires c κs = (c .before .before .before .before .before .before .before .before .loop .inv .2 .rows .sized, omega (arith, c .before .before .before .before .before .before .before .before .loop .inv .2 .small, inside (c .before .before .before .before .before .before .before), few-rows _ (c .before .before .before .before .before .before .before .before .before .before .before .before .pre .0 .rows)))
 
 add-left : tie.Need-add-left Inv-loop μ-loop
 add-left c = omega (arith, c .before .before .before .before .before .before .before .before .before .before .before .before .loop .inv .2 .rows .few)
 
 add-settled : tie.Need-add-settled Inv-loop μ-loop
-add-settled c = omega (arith, c .before .before .before .before .before .before .before .before .before .before .before .before .loop .inv .2 .small, inside (c .before .before .before .before .before .before .before .before .before .before .before), c .before .before .before .before .before .before .before .before .before .before .before .before .before .before .before .before .pre .0 .rows .at-most, c .if1 .left)
+add-settled c = omega (arith, c .before .before .before .before .before .before .before .before .before .before .before .before .loop .inv .2 .small, inside (c .before .before .before .before .before .before .before .before .before .before .before), few-rows _ (c .before .before .before .before .before .before .before .before .before .before .before .before .before .before .before .before .pre .0 .rows), c .if1 .left)
 
 add-place : tie.Need-add-place Inv-loop μ-loop
 add-place c = search needs
@@ -148,14 +149,15 @@ loop-less : tie.Need-loop-less Inv-loop μ-loop
 loop-less c = search needs
 
 loop-again : tie.Need-loop-again Inv-loop μ-loop
+unfolding sheetOf triples
 loop-again c =
     let p = c .before .before .before .before .before .before .before .before .before .before .before .before .before .before .before .before in
     let q = c .before .before .before .before .before .before .before .before .before .before .before .before .loop in
     let put = c .before .before .before .put-row .ensures in
-    let place : q .left < 64 = omega (arith, q .inv .2 .small, inside (c .before .before .before .before .before .before .before .before .before .before .before), p .pre .0 .rows .at-most) in
-    let words = now (p .args .words) in
-    let own = getD words (3 * q .place) 0 in
-    let period = getD words (3 * q .place + 2) 0 in
+    let place : q .left < 64 = omega (arith, q .inv .2 .small, inside (c .before .before .before .before .before .before .before .before .before .before .before), few-rows _ (p .pre .0 .rows)) in
+    let s = sheetOf (now (p .args .words)) in
+    let own = s .cost (q .place) in
+    let period = s .period (q .place) in
     let ahead = getD (now (p .args .bounds)) (q .place) 0 - own in
     let taken = c .before .before .before .before .before .before .share-in-window .result in
     let rise = c .before .before .before .before .before .rise-of .result in

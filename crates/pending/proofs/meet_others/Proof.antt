@@ -2,10 +2,9 @@
 use native.Mathlib.Omega.{arith}
 use mathlib.Core.Path.{_∙_, sym}
 use denote.Ref.{now}
+use Rattle.model.proofs.Sheet.{row-sized, few-rows}
 use Rattle.laws.specs.Sum.{total}
 use Rattle.rows.specs.Words.{sheetOf}
-use Rattle.rows.proofs.Words.{sheet-rows}
-use Rattle.rows.proofs.Checks.{sound-row}
 use Rattle.refinement.proofs.Kept.{met-all}
 use Rattle.pending.proofs.meet_others.Statement.{statement}
 use Rattle.pending.proofs.meet_others.Tie as tie
@@ -13,27 +12,29 @@ use Rattle.pending.proofs.meet_others.Tie as tie
 meet-requires : tie.Need-meet-requires
 meet-requires c κs =
     let p = c .before .before .before .before in
-    let sized = sound-row (now (p .args .words)) (p .pre .0 .rows) (p .args .row) (p .pre .1) in (
+    let sized = row-sized _ (p .pre .0 .rows) (p .args .row) (p .pre .1) in (
       p .pre .0,
       omega arith,
       omega (arith, p .pre .1),
       omega (arith, p .pre .3),
       record { rows = record { sized = p .pre .4; few = omega arith; each = λ j h. absurd (omega arith) }; small = omega arith },
+      p .pre .5,
     )
 
 add-meet : tie.Need-add-meet
-add-meet c = omega (arith, c .before .before .before .before .before .before .before .pre .1, c .before .before .before .before .before .before .before .pre .0 .rows .at-most)
+add-meet c = omega (arith, c .before .before .before .before .before .before .before .pre .1, few-rows _ (c .before .before .before .before .before .before .before .pre .0 .rows))
 
 meet-requires-2 : tie.Need-meet-requires-2
 meet-requires-2 c κs =
     let p = c .before .before .before .before .before .before .before .before in
     let ahead = c .before .before .before .meet .ensures .0 in
-    let sized = sound-row (now (p .args .words)) (p .pre .0 .rows) (p .args .row) (p .pre .1) in (
+    let sized = row-sized _ (p .pre .0 .rows) (p .args .row) (p .pre .1) in (
       p .pre .0,
       omega (arith, p .pre .1, p .pre .2),
       omega (arith, p .pre .2),
       omega (arith, p .pre .3),
       record { rows = ahead .rows; small = omega (arith, ahead .small) },
+      p .pre .5,
     )
 
 same-length : tie.Need-same-length
@@ -43,16 +44,15 @@ returns : tie.Need-returns
 unfolding total
 returns c =
     let p = c .before .before .before .before .before .before .before .before .before .before .before in
-    let words = now (p .args .words) in
-    let s = sheetOf words in
-    let sized = sound-row words (p .pre .0 .rows) (p .args .row) (p .pre .1) in
+    let s = sheetOf (now (p .args .words)) in
+    let sized = row-sized _ (p .pre .0 .rows) (p .args .row) (p .pre .1) in
     let first = c .before .before .before .before .before .before .meet .ensures in
     let second = c .before .before .meet2 .ensures in
     record {
-      fewer = omega (arith, second .0 .small, p .pre .2, sheet-rows words);
-      kept = record { rows = second .0 .rows; small = omega (arith, second .0 .small, p .pre .2, p .pre .0 .rows .at-most) };
+      fewer = omega (arith, second .0 .small, p .pre .2);
+      kept = record { rows = second .0 .rows; small = omega (arith, second .0 .small, p .pre .2, few-rows _ (p .pre .0 .rows)) };
       same = λ z from.
-          met-all s (now (p .args .bounds)) (p .args .row) (p .args .window) (p .args .count) z _ _ (omega (arith, p .pre .1, p .pre .2)) (p .pre .2 ∙ sym (sheet-rows words)) (p .pre .3)
+          met-all s (now (p .args .bounds)) (p .args .row) (p .args .window) (p .args .count) z _ _ (omega (arith, p .pre .1, p .pre .2)) (p .pre .2) (p .pre .3)
           (first .1 z _ (omega (arith, sized .positive)) (omega arith)) (second .1 z _ (omega (arith, sized .positive)) (omega arith));
     }
 

@@ -2,39 +2,39 @@
 use borrow.Author.Needs.{needs}
 use denote.Ref.{now}
 use mathlib.Core.Path.{_∙_, sym}
+use Rattle.rows.specs.Words.{sheetOf}
 use Rattle.refinement.specs.Inner.Ray.{Descended}
 use Rattle.refinement.specs.Refinement.{askOf}
-use Rattle.refinement.proofs.Steps.{ask-regular}
-use Rattle.refinement.proofs.Descent.{descended-none, descended-more, descended-length, descended-ready}
+use Rattle.refinement.proofs.Descent.{descended-none, descended-more, descended-length, descended-running}
 use Rattle.ray.proofs.descend.Statement.{statement}
 use Rattle.ray.proofs.descend.Tie as tie
 
 abbrev Inv-loop : tie.InvT-loop
-Inv-loop words bounds₀ drops₀ processors method count tries₀ bounds drops tries = Descended words (askOf words processors method) bounds₀ bounds drops
+Inv-loop words bounds₀ drops₀ processors method count tries₀ bounds drops tries = Descended (sheetOf words) (askOf (sheetOf words) processors method) bounds₀ bounds drops
 
 abbrev μ-loop : tie.MeasureT-loop
 μ-loop words bounds₀ drops₀ processors method count tries₀ bounds drops tries = tries
 
 loop-holds : tie.Need-loop-holds Inv-loop μ-loop
-loop-holds c = descended-none _ _ _ _ (c .before .before .before .pre .3) (c .before .before .before .pre .5)
+loop-holds c = descended-none _ _ _ _ (c .before .before .before .pre .0 .held) (c .before .before .before .pre .1)
 
 ray-once-requires : tie.Need-ray-once-requires Inv-loop μ-loop
 ray-once-requires c κs =
     let p = c .before .before .before .before .before .before .before in
     let so-far = c .before .before .before .loop .inv in
-    (descended-ready _ _ (ask-regular _ _ _) _ _ _ (p .pre .0) so-far, p .pre .1, p .pre .2, so-far .held, p .pre .4, so-far .drops-small)
+    (descended-running _ _ _ _ _ _ _ (p .pre .0) so-far, so-far .drops-small, p .pre .2)
 
 -- After one more ray.
 further : (c : tie.After-ray-once Inv-loop μ-loop) → let p = c .before .before .before .before .before .before .before .before in
     let words = now (p .args .words) in
-    Descended words (askOf words (p .args .processors) (p .args .method)) (now (p .args .bounds)) (c .ray-once .last .1 .0) (c .ray-once .last .1 .1 .0)
+    Descended (sheetOf words) (askOf (sheetOf words) (p .args .processors) (p .args .method)) (now (p .args .bounds)) (c .ray-once .last .1 .0) (c .ray-once .last .1 .1 .0)
 further c = descended-more _ _ _ _ _ _ _ (c .before .before .before .before .loop .inv) (c .ray-once .ensures)
 
 same-length : tie.Need-same-length Inv-loop μ-loop
-same-length c = descended-length _ _ _ _ _ (c .before .before .before .before .before .before .before .before .before .before .before .before .before .pre .0) (further (c .before .before .before .before .before))
+same-length c = descended-length _ _ _ _ _ (c .before .before .before .before .before .before .before .before .before .before .before .before .before .pre .0 .ready) (further (c .before .before .before .before .before))
 
 same-length-2 : tie.Need-same-length-2 Inv-loop μ-loop
-same-length-2 c = let p = c .before .before .before .before .before .before .before .before .before .before .before .before .before in further (c .before .before .before .before .before) .drops-small .one-each ∙ sym (p .pre .5 .one-each)
+same-length-2 c = let p = c .before .before .before .before .before .before .before .before .before .before .before .before .before in further (c .before .before .before .before .before) .drops-small .one-each ∙ sym (p .pre .1 .one-each)
 
 returns : tie.Need-returns Inv-loop μ-loop
 returns c = further (c .before .before .before .before .before)
@@ -49,10 +49,10 @@ loop-again : tie.Need-loop-again Inv-loop μ-loop
 loop-again c = further (c .before .before .before .before .before)
 
 same-length-3 : tie.Need-same-length-3 Inv-loop μ-loop
-same-length-3 c = descended-length _ _ _ _ _ (c .before .before .before .before .before .pre .0) (c .before .loop .inv)
+same-length-3 c = descended-length _ _ _ _ _ (c .before .before .before .before .before .pre .0 .ready) (c .before .loop .inv)
 
 same-length-4 : tie.Need-same-length-4 Inv-loop μ-loop
-same-length-4 c = c .before .loop .inv .drops-small .one-each ∙ sym (c .before .before .before .before .before .pre .5 .one-each)
+same-length-4 c = c .before .loop .inv .drops-small .one-each ∙ sym (c .before .before .before .before .before .pre .1 .one-each)
 
 returns-2 : tie.Need-returns-2 Inv-loop μ-loop
 returns-2 c = c .before .loop .inv

@@ -20,7 +20,7 @@ loop-holds : tie.Need-loop-holds Inv-loop μ-loop
 loop-holds c = ((λ i h. absurd (omega arith)), omega arith)
 
 row-room-requires : tie.Need-row-room-requires Inv-loop μ-loop
-row-room-requires c κs = let p = c .before .before .before .before .before in (p .pre .0, omega (arith, p .pre .1, p .pre .2), omega (arith, p .pre .1))
+row-room-requires c κs = let p = c .before .before .before .before .before in (p .pre .0, omega (arith, p .pre .1, p .pre .2), omega (arith, p .pre .1), p .pre .3)
 
 lesser-requires : tie.Need-lesser-requires Inv-loop μ-loop
 lesser-requires c κs = search needs

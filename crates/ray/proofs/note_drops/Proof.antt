@@ -7,9 +7,8 @@ use Prim.Native.Nat.{ℕ, _-_, _≤_, _<_}
 use lib.ListN.{length, getD, length-set}
 use lib.Seq.{getD-set-same, getD-set-other}
 use denote.Ref.{now}
-use Rattle.rows.specs.Words.{rowCount}
-use Rattle.rows.proofs.Checks.{sound-row}
-use Rattle.refinement.proofs.Limits.{bound-in-range}
+use Rattle.model.proofs.Sheet.{row-sized}
+use Rattle.rows.specs.Words.{sheetOf}
 use Rattle.ray.proofs.note_drops.Statement.{statement}
 use Rattle.ray.proofs.note_drops.Tie as tie
 
@@ -76,9 +75,9 @@ loop-again c =
     let p = c .before .before .before .before .before .before .before .before .before .before .before in
     let q = c .before .before .before .before .before .before .loop in
     let words = now (p .args .words) in
-    let inside : q .row < rowCount words = omega (arith, p .pre .1) in
-    let range = bound-in-range words (now (p .args .bounds)) (p .pre .0) (q .row) inside in
-    let sized = sound-row words (p .pre .0 .rows) (q .row) inside in (
+    let inside : q .row < (sheetOf words) .rows = omega (arith, p .pre .1) in
+    let range = p .pre .0 .in-range (q .row) inside in
+    let sized = row-sized _ (p .pre .0 .rows) (q .row) inside in (
       omega arith,
       length-set (q .drops) (q .row) (c .next-drop .result) ∙ q .inv .1,
       below-more _ (q .row)
@@ -93,7 +92,7 @@ returns : tie.Need-returns Inv-loop μ-loop
 returns c =
     let p = c .before .before .before .before .before .before in
     let q = c .before .loop in
-    let done : q .row ≡ rowCount (now (p .args .words)) = omega (arith, p .pre .1, q .inv .0) in
+    let done : q .row ≡ (sheetOf (now (p .args .words))) .rows = omega (arith, p .pre .1, q .inv .0) in
     record { one-each = q .inv .1 ∙ p .pre .1; each = λ i h. q .inv .2 i (omega arith) }
 
 pub note-drops-spec : {M : Type 1} → statement M

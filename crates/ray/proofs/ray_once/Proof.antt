@@ -16,11 +16,11 @@ step-down-requires : tie.Need-step-down-requires
 step-down-requires c κs =
     let p = c .before .before .before .before .before .before .before .before .before .before .before .before .before .before .before in
     let lowered = c .before .before .before .before .before .before .ray-pass .ensures in (
-      lowered .one-each ∙ sym (p .pre .1),
-      lowered .drops-small .one-each ∙ sym (p .pre .1),
+      lowered .one-each ∙ sym (p .pre .0 .counted),
+      lowered .drops-small .one-each ∙ sym (p .pre .0 .counted),
       λ i h.
-          let inside = le-trans h (le-of-eq (p .pre .1)) in
-          (lowered .room i inside, lowered-small _ _ (p .pre .0) (c .before .before .before .before .before .before .ray-pass .last .1 .0) (lowered .below) i inside),
+          let inside = le-trans h (le-of-eq (p .pre .0 .counted)) in
+          (lowered .room i inside, lowered-small _ _ (p .pre .0 .ready) (c .before .before .before .before .before .before .ray-pass .last .1 .0) (lowered .below) i inside),
     )
 
 same-length : tie.Need-same-length
@@ -32,7 +32,7 @@ same-length-2 c = search needs
 returns : tie.Need-returns
 returns c =
     let p = c .before .before .before .before .before .before .before .before .before .before .before .before .before .before .before .before .before .before in
-    lowered-down _ _ _ _ _ _ (c .before .before .before .before .before .before .before .before .before .ray-pass .ensures) (p .args .count) (p .pre .1) _ (c .before .before .step-down .ensures)
+    lowered-down _ _ _ _ _ _ (c .before .before .before .before .before .before .before .before .before .ray-pass .ensures) (p .args .count) (p .pre .0 .counted) _ (c .before .before .step-down .ensures)
 
 pub ray-once-spec : {M : Type 1} → statement M
 ray-once-spec =

@@ -9,7 +9,6 @@ use Prim.Native.Nat.{ℕ, _+_, _*_, _-_, _≤_, _<_}
 use mathlib.Core.Path.{_≡_, refl, _∙_}
 use Rattle.model.proofs.Ray.{OnRay, ray-first}
 use Rattle.rows.specs.Words.{sheetOf}
-use Rattle.rows.proofs.Words.{sheet-rows}
 use Rattle.refinement.specs.Refinement.{askOf}
 use Rattle.refinement.proofs.Steps.{ask-regular}
 use Rattle.refinement.proofs.Descent.{on-way, ray-lost, ray-done, ray-lowered, ray-stayed}
@@ -18,13 +17,13 @@ use Rattle.ray.proofs.ray_pass.Tie as tie
 
 abbrev Inv-loop : tie.InvT-loop
 Inv-loop words bounds₀ drops₀ processors method count most steps₀ row₀ bounds drops steps row =
-    (length bounds ≡ length bounds₀) × (length drops ≡ length drops₀) × (drops ≡ drops₀) × OnRay (sheetOf words) (askOf words processors method) bounds₀ drops₀ row steps bounds × (steps ≤ most) × (row ≤ count)
+    (length bounds ≡ length bounds₀) × (length drops ≡ length drops₀) × (drops ≡ drops₀) × OnRay (sheetOf words) (askOf (sheetOf words) processors method) bounds₀ drops₀ row steps bounds × (steps ≤ most) × (row ≤ count)
 
 abbrev μ-loop : tie.MeasureT-loop
 μ-loop words bounds₀ drops₀ processors method count most steps₀ row₀ bounds drops steps row = count - row
 
 loop-holds : tie.Need-loop-holds Inv-loop μ-loop
-loop-holds c = (refl, refl, refl, ray-first _ _ (ask-regular _ _ _) _ _ _ (c .before .before .before .pre .3), omega arith, omega arith)
+loop-holds c = (refl, refl, refl, ray-first _ _ (ask-regular _ _ _) _ _ _ (c .before .before .before .pre .0 .held), omega arith, omega arith)
 
 cast-drop : tie.Need-cast-drop Inv-loop μ-loop
 cast-drop c = search needs
@@ -39,10 +38,11 @@ row-reach-requires : tie.Need-row-reach-requires Inv-loop μ-loop
 row-reach-requires c κs =
     let p = c .before .before .before .before .before .before .before .before .before in
     let q = c .before .before .before .before .before .loop in (
-      rw (q .inv .2) (on-way _ _ (ask-regular _ _ _) _ _ _ (p .pre .0) (p .pre .5) (p .pre .6) (q .row) (q .steps) (q .bounds) (q .inv .3) (q .inv .4) (omega (arith, p .pre .1))),
-      p .pre .1,
-      p .pre .2,
-      p .pre .4,
+      rw (q .inv .2) (on-way _ _ (ask-regular _ _ _) _ _ _ (p .pre .0 .ready) (p .pre .1) (p .pre .2) (q .row) (q .steps) (q .bounds) (q .inv .3) (q .inv .4) (omega (arith, p .pre .0 .counted))),
+      p .pre .0 .counted,
+      p .pre .0 .some-processor,
+      p .pre .0 .few,
+      p .pre .3,
     )
 
 cast-drops : tie.Need-cast-drops Inv-loop μ-loop
@@ -64,7 +64,7 @@ returns : tie.Need-returns Inv-loop μ-loop
 returns c =
     let p = c .before .before .before .before .before .before .before .before .before .before .before in
     let q = c .before .before .before .before .before .before .before .loop in
-    rw (q .inv .2) (ray-lost _ _ (ask-regular _ _ _) _ _ _ (p .pre .0) (p .pre .5) (p .pre .6) (q .row) (q .steps) (q .bounds) (q .inv .3) (omega (arith, p .pre .1)))
+    rw (q .inv .2) (ray-lost _ _ (ask-regular _ _ _) _ _ _ (p .pre .0 .ready) (p .pre .1) (p .pre .2) (q .row) (q .steps) (q .bounds) (q .inv .3) (omega (arith, p .pre .0 .counted)))
 
 cast-bounds : tie.Need-cast-bounds Inv-loop μ-loop
 cast-bounds c = search needs
@@ -86,7 +86,7 @@ sub-bounds c =
     let p = c .before .before .before .before .before .before .before .before .before .before .before .before in
     let q = c .before .before .before .before .before .before .before .before .loop in
     let reach = c .before .before .row-reach in
-    let way = on-way _ _ (ask-regular _ _ _) _ _ _ (p .pre .0) (p .pre .5) (p .pre .6) (q .row) (q .steps) (q .bounds) (q .inv .3) (q .inv .4) (omega (arith, p .pre .1)) in
+    let way = on-way _ _ (ask-regular _ _ _) _ _ _ (p .pre .0 .ready) (p .pre .1) (p .pre .2) (q .row) (q .steps) (q .bounds) (q .inv .3) (q .inv .4) (omega (arith, p .pre .0 .counted)) in
     first-step (q .steps) (reach .result) _ _ _ (reach .ensures .fewer) (c .before .if2 .left) (rw (← q .inv .2) at (way .own))
 
 cast-bounds-2 : tie.Need-cast-bounds-2 Inv-loop μ-loop
@@ -108,14 +108,14 @@ loop-less c = search needs
 joined : (c : tie.Joined1 Inv-loop μ-loop) → let p = c .before .before .before .before .before .before .before in
     let q = c .before .before .before .loop in
     let words = now (p .args .words) in
-    OnRay (sheetOf words) (askOf words (p .args .processors) (p .args .method)) (now (p .args .bounds)) (now (p .args .drops)) (q .row + 1)
+    OnRay (sheetOf words) (askOf (sheetOf words) (p .args .processors) (p .args .method)) (now (p .args .bounds)) (now (p .args .drops)) (q .row + 1)
     (c .if1 .steps) (c .if1 .bounds)
     × (c .if1 .steps ≤ q .steps)
     × (length (c .if1 .bounds) ≡ length (q .bounds))
 joined c =
     let p = c .before .before .before .before .before .before .before in
     let q = c .before .before .before .loop in
-    let inside : q .row < (sheetOf (now (p .args .words))) .rows = omega (arith, p .pre .1, sheet-rows (now (p .args .words))) in
+    let inside : q .row < (sheetOf (now (p .args .words))) .rows = omega (arith, p .pre .0 .counted) in
     ⊎-elim
     (λ w.
     ray-lowered _ _ (ask-regular _ _ _) _ _ _ (q .row) (q .steps) (q .bounds) (q .inv .3) inside (q .inv .2) (w .3 .result) (w .3 .ensures) (w .4 .left) _ _ (w .6) (w .7))
@@ -143,8 +143,8 @@ returns-2 c =
     let p = c .before .before .before .before .before .before in
     let q = c .before .before .loop in
     rw (q .inv .2)
-    (ray-done _ _ (ask-regular _ _ _) _ _ _ (p .pre .0) (p .pre .5) (p .pre .6) (q .row) (q .steps) (q .bounds) (p .pre .3) (q .inv .3) (q .inv .4)
-    (omega (arith, p .pre .1, q .inv .5)) (c .less .result) (c .less .ensures))
+    (ray-done _ _ (ask-regular _ _ _) _ _ _ (p .pre .0 .ready) (p .pre .1) (p .pre .2) (q .row) (q .steps) (q .bounds) (p .pre .0 .held) (q .inv .3) (q .inv .4)
+    (omega (arith, p .pre .0 .counted, q .inv .5)) (c .less .result) (c .less .ensures))
 
 pub ray-pass-spec : {M : Type 1} → statement M
 ray-pass-spec =

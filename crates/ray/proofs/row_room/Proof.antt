@@ -1,13 +1,12 @@
 -- `row_room` divides what lies above the cost by the drop; without a drop there is room for any number of steps.
 use native.Mathlib.Omega.{arith}
 use denote.Ref.{now}
-use Prim.Native.Nat.{_*_, _-_, _≤_}
+use Prim.Native.Nat.{_-_, _≤_}
 use lib.ListN.{getD}
 use native.Mathlib.Nat.{mul-zero, zero-add, div-mul-le-self}
 use Rattle.rows.specs.Words.{sheetOf}
-use Rattle.rows.proofs.Words.{cost-word}
-use Rattle.refinement.proofs.Limits.{bound-in-range}
 use borrow.Author.Needs.{needs}
+use Rattle.model.specs.Sheet.{triples}
 use Rattle.ray.proofs.row_room.Statement.{statement}
 use Rattle.ray.proofs.row_room.Tie as tie
 
@@ -22,7 +21,7 @@ shared-slice-read-drop c = search needs
 
 -- A bound is not below its row's cost.
 from-cost : (s : tie.Start) → (sheetOf (now (s .args .words))) .cost (s .args .row) ≤ getD (now (s .args .bounds)) (s .args .row) 0
-from-cost s = bound-in-range (now (s .args .words)) (now (s .args .bounds)) (s .pre .0) (s .args .row) (s .pre .2) .0
+from-cost s = s .pre .0 .in-range (s .args .row) (s .pre .2) .0
 
 returns : tie.Need-returns
 returns c = let p = c .before .before in rw (c .if1 .taken, mul-zero, zero-add) (from-cost p)
@@ -40,21 +39,21 @@ shared-slice-read-result-2 : tie.Need-shared-slice-read-result-2
 shared-slice-read-result-2 c = search needs
 
 sub-result : tie.Need-sub-result
-sub-result c = let p = c .before .before .before .before in omega (arith, from-cost p, cost-word (now (p .args .words)) (p .args .row))
+unfolding sheetOf triples
+sub-result c = let p = c .before .before .before .before in omega (arith, from-cost p)
 
 div-result : tie.Need-div-result
 div-result c = search needs
 
 returns-2 : tie.Need-returns-2
+unfolding sheetOf triples
 returns-2 c =
     let p = c .before .before .before .before in
-    let words = now (p .args .words) in
     let bound = getD (now (p .args .bounds)) (p .args .row) 0 in
     omega (
       arith,
       from-cost p,
-      cost-word words (p .args .row),
-      div-mul-le-self (bound - getD words (3 * p .args .row) 0) (getD (now (p .args .drops)) (p .args .row) 0),
+      div-mul-le-self (bound - (sheetOf (now (p .args .words))) .cost (p .args .row)) (getD (now (p .args .drops)) (p .args .row) 0),
     )
 
 pub row-room-spec : {M : Type 1} → statement M

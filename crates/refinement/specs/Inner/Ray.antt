@@ -11,7 +11,6 @@ use Rattle.model.specs.Interference.{others, bclTerm, rtaTerm}
 use Rattle.model.specs.Answer.{Method, BCL, RTA}
 use Rattle.model.specs.Refine.{Ask}
 use Rattle.model.specs.Inner.{along, Falls, Held}
-use Rattle.rows.specs.Words.{rowCount, sheetOf}
 use Rattle.refinement.specs.Question.{Ready}
 
 -- What another row adds at X, by either method, and the most that it may add.
@@ -61,13 +60,13 @@ pub record Small (n : ℕ) (drops : List ℕ) : Type 0 where
   pub one-each : length drops ≡ n
   pub each : (i : ℕ) → i < n → getD drops i 0 ≤ 1_000_000
 
--- What a row's way down asks: checked words, bounds in range, a drop for each row, and room for the steps asked for.
-pub record OnWay (words R drops : List ℕ) (row most : ℕ) : Type 0 where
-  pub ready : Ready words R
-  pub inside : row < rowCount words
-  pub drops-small : Small (rowCount words) drops
-  pub room : (t : ℕ) → t < most → (i : ℕ) → i < rowCount words → t * getD drops i 0 + (sheetOf words) .cost i ≤ getD R i 0
-  pub own : most * getD drops row 0 + (sheetOf words) .cost row ≤ getD R row 0
+-- What a row's way down asks: a sheet of allowed sizes, bounds in range, a drop for each row, and room for the steps asked for.
+pub record OnWay (s : Sheet) (R drops : List ℕ) (row most : ℕ) : Type 0 where
+  pub ready : Ready s R
+  pub inside : row < s .rows
+  pub drops-small : Small (s .rows) drops
+  pub room : (t : ℕ) → t < most → (i : ℕ) → i < s .rows → t * getD drops i 0 + s .cost i ≤ getD R i 0
+  pub own : most * getD drops row 0 + s .cost row ≤ getD R row 0
 
 -- A row's first step, as the sheet and the bounds say it.
 pub record Aimed (s : Sheet) (R drops : List ℕ) (row window first fall : ℕ) : Type 0 where
@@ -105,19 +104,19 @@ pub record Reaches (s : Sheet) (ask : Ask) (R drops : List ℕ) (row most steps 
   pub falls : Falls s ask R drops row steps
 
 -- Every row has room for so many steps.
-abbrev pub Roomy : List ℕ → List ℕ → List ℕ → ℕ → Type 0
-Roomy words R drops most = (i : ℕ) → i < rowCount words → most * getD drops i 0 + (sheetOf words) .cost i ≤ getD R i 0
+abbrev pub Roomy : Sheet → List ℕ → List ℕ → ℕ → Type 0
+Roomy s R drops most = (i : ℕ) → i < s .rows → most * getD drops i 0 + s .cost i ≤ getD R i 0
 
 -- What a pass down the ray leaves: lower bounds, and so many further steps that may be made at once.
-pub record Lowered (words : List ℕ) (ask : Ask) (before after drops : List ℕ) (further : ℕ) : Type 0 where
-  pub below : Below (rowCount words) after before
-  pub drops-small : Small (rowCount words) drops
-  pub room : (i : ℕ) → i < rowCount words → further * getD drops i 0 ≤ getD after i 0
-  pub one-each : length after ≡ rowCount words
-  pub ahead : Held (sheetOf words) ask (along (rowCount words) after drops further)
+pub record Lowered (s : Sheet) (ask : Ask) (before after drops : List ℕ) (further : ℕ) : Type 0 where
+  pub below : Below (s .rows) after before
+  pub drops-small : Small (s .rows) drops
+  pub room : (i : ℕ) → i < s .rows → further * getD drops i 0 ≤ getD after i 0
+  pub one-each : length after ≡ s .rows
+  pub ahead : Held s ask (along (s .rows) after drops further)
 
 -- What going down leaves: lower bounds that hold what bounds on the way hold, and drops as before in size.
-pub record Descended (words : List ℕ) (ask : Ask) (before after drops : List ℕ) : Type 0 where
-  pub held : Held (sheetOf words) ask after
-  pub below : Below (rowCount words) after before
-  pub drops-small : Small (rowCount words) drops
+pub record Descended (s : Sheet) (ask : Ask) (before after drops : List ℕ) : Type 0 where
+  pub held : Held s ask after
+  pub below : Below (s .rows) after before
+  pub drops-small : Small (s .rows) drops

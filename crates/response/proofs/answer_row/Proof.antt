@@ -4,16 +4,17 @@ use mathlib.Core.Path.{sym}
 use lib.ListN.{replicate}
 use lib.Seq.{length-take-le}
 use native.Mathlib.Omega.{arith}
+use Rattle.model.proofs.Sheet.{few-rows}
 use Rattle.response.proofs.answer_row.Statement.{statement}
 use Rattle.response.proofs.answer_row.Tie as tie
 
 array-borrow-prefix-taken : tie.Need-array-borrow-prefix-taken
-array-borrow-prefix-taken c = search needs
+array-borrow-prefix-taken c = let p = c .before .before in omega (arith, few-rows _ (p .pre .0 .rows))
 
 slice-aggregate-answer-in : tie.Need-slice-aggregate-answer-in
 slice-aggregate-answer-in c =
     let p = c .before .before .before in
-    sym (length-take-le (p .args .count) (replicate 64 0) (omega (arith, p .pre .2, p .pre .0 .rows .at-most)))
+    sym (length-take-le (p .args .count) (replicate 64 0) (omega (arith, p .pre .2, few-rows _ (p .pre .0 .rows))))
 
 answer-in-requires : tie.Need-answer-in-requires
 answer-in-requires c κs =
@@ -22,7 +23,8 @@ answer-in-requires c κs =
       p .pre .1,
       p .pre .2,
       p .pre .3,
-      length-take-le (p .args .count) (replicate 64 0) (omega (arith, p .pre .2, p .pre .0 .rows .at-most)),
+      length-take-le (p .args .count) (replicate 64 0) (omega (arith, p .pre .2, few-rows _ (p .pre .0 .rows))),
+      p .pre .4,
     )
 
 returns : tie.Need-returns

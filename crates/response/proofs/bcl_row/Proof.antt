@@ -4,10 +4,10 @@ use mathlib.Core.Path.{sym, ap}
 use mathlib.Core.Option.{none, some}
 use native.Mathlib.Nat.{div-le-self}
 use denote.Ref.{now}
+use Rattle.model.proofs.Sheet.{row-sized, few-rows}
 use Rattle.model.specs.Answer.{BCL, answer}
 use Rattle.model.proofs.Answer.{answer-fixed}
 use Rattle.rows.specs.Words.{sheetOf, foundOf}
-use Rattle.rows.proofs.Checks.{sound-row}
 use Rattle.refinement.proofs.Shares.{prepared-length, prepared-small, shares-sum-small, value-from-shares}
 use native.Mathlib.Omega.{arith}
 use Rattle.response.proofs.bcl_row.Statement.{statement}
@@ -19,7 +19,7 @@ cost-requires c κs = search needs
 sum-of-shares-requires : tie.Need-sum-of-shares-requires
 sum-of-shares-requires c κs =
     let p = c .before .before .before .before in
-    (prepared-length _ _ _ _ _ _ (p .pre), omega (arith, p .pre .counted, p .pre .ready .rows .at-most), prepared-small _ _ _ _ _ _ (p .pre))
+    (prepared-length _ _ _ _ _ _ (p .pre), omega (arith, p .pre .counted, few-rows _ (p .pre .ready .rows)), prepared-small _ _ _ _ _ _ (p .pre))
 
 div-value : tie.Need-div-value
 div-value c = search needs
@@ -27,7 +27,7 @@ div-value c = search needs
 add-value : tie.Need-add-value
 add-value c =
     let p = c .before .before .before .before .before in
-    let sized = sound-row (now (p .args .words)) (p .pre .ready .rows) (p .args .row) (p .pre .inside) in
+    let sized = row-sized _ (p .pre .ready .rows) (p .args .row) (p .pre .inside) in
     omega (arith, div-le-self (c .sum-of-shares .result) (p .args .processors), shares-sum-small _ _ _ _ _ _ (p .pre))
 
 deadline-requires : tie.Need-deadline-requires

@@ -2,8 +2,7 @@
 use borrow.Author.Needs.{needs}
 use Prim.Native.Nat.{_+_, _-_, _≤_}
 use native.Mathlib.Nat.{div-le-self}
-use denote.Ref.{now}
-use Rattle.rows.proofs.Checks.{sound-row}
+use Rattle.model.proofs.Sheet.{row-sized}
 use Rattle.refinement.proofs.Shares.{prepared-length, terms-sum-small, right-from-terms}
 use native.Mathlib.Omega.{arith}
 use Rattle.response.proofs.right_side.Statement.{statement}
@@ -18,19 +17,20 @@ sub-sum-of-terms c = search needs
 add-sum-of-terms : tie.Need-add-sum-of-terms
 add-sum-of-terms c =
     let p = c .before .before .before .before in
-    let sized = sound-row (now (p .args .words)) (p .pre .0 .ready .rows) (p .args .row) (p .pre .0 .inside) in
+    let sized = row-sized _ (p .pre .0 .ready .rows) (p .args .row) (p .pre .0 .inside) in
     omega (arith, p .pre .2)
 
 sum-of-terms-requires : tie.Need-sum-of-terms-requires
 sum-of-terms-requires c κs =
     let p = c .before .before .before .before in
-    let sized = sound-row (now (p .args .words)) (p .pre .0 .ready .rows) (p .args .row) (p .pre .0 .inside) in (
+    let sized = row-sized _ (p .pre .0 .ready .rows) (p .args .row) (p .pre .0 .inside) in (
       p .pre .0 .ready,
       p .pre .0 .counted,
       prepared-length _ _ _ _ _ _ (p .pre .0),
       omega (arith, p .pre .1),
       omega (arith, p .pre .2),
       omega (arith, p .pre .2),
+      p .pre .3,
     )
 
 div-result : tie.Need-div-result
@@ -39,7 +39,7 @@ div-result c = search needs
 add-result : tie.Need-add-result
 add-result c =
     let p = c .before .before .before .before .before in
-    let sized = sound-row (now (p .args .words)) (p .pre .0 .ready .rows) (p .args .row) (p .pre .0 .inside) in
+    let sized = row-sized _ (p .pre .0 .ready .rows) (p .args .row) (p .pre .0 .inside) in
     let small : p .args .x - c .before .cost .result + 1 ≤ 1_000_000 = omega (arith, p .pre .2) in
     omega (
       arith,

@@ -3,12 +3,12 @@ use borrow.Author.Needs.{needs}
 use mathlib.Core.Path.{_∙_, sym, ap}
 use Prim.Native.Nat.{_-_, _≤_}
 use denote.Ref.{now}
+use Rattle.model.proofs.Sheet.{row-sized}
 use Rattle.laws.proofs.Climb.{Climbed, climbed-first, climbed-more}
 use Rattle.model.specs.Interference.{rtaRight}
 use Rattle.model.proofs.Interference.{rtaRight-rises, rtaRight-from-cost}
 use Rattle.model.proofs.Answer.{climb-found, climb-none}
 use Rattle.rows.specs.Words.{sheetOf, foundOf}
-use Rattle.rows.proofs.Checks.{sound-row}
 use native.Mathlib.Omega.{arith}
 use Rattle.response.proofs.rta_row.Statement.{statement}
 use Rattle.response.proofs.rta_row.Tie as tie
@@ -31,11 +31,13 @@ loop-holds c =
     let p = c .before .before .before .before .before in
     rw (c .cost .ensures) (
       climbed-first _ _ (rtaRight-from-cost _ _ _ _ _),
-      sound-row (now (p .args .words)) (p .pre .ready .rows) (p .args .row) (p .pre .inside) .by-deadline,
+      row-sized _ (p .pre .0 .ready .rows) (p .args .row) (p .pre .0 .inside) .by-deadline,
     )
 
 right-side-requires : tie.Need-right-side-requires Inv-loop μ-loop
-right-side-requires c κs = (c .before .before .before .before .before .before .pre, c .loop .inv .0 .from, c .loop .inv .1)
+right-side-requires c κs =
+    let p = c .before .before .before .before .before .before in
+    (p .pre .0, c .loop .inv .0 .from, c .loop .inv .1, p .pre .1)
 
 returns : tie.Need-returns Inv-loop μ-loop
 unfolding foundOf

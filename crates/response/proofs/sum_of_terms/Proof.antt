@@ -3,6 +3,7 @@ use borrow.Author.Needs.{needs}
 use mathlib.Core.Path.{_≡_, refl, _∙_, ap}
 use Prim.Native.Nat.{_*_, _-_, _≤_}
 use denote.Ref.{now}
+use Rattle.model.proofs.Sheet.{few-rows}
 use Rattle.laws.specs.Sum.{total}
 use Rattle.laws.proofs.Sum.{total-step}
 use Rattle.rows.specs.Words.{sheetOf}
@@ -26,7 +27,7 @@ loop-holds c = (omega arith, refl, omega arith)
 term-requires : tie.Need-term-requires Inv-loop μ-loop
 term-requires c κs =
     let p = c .before .before .before .before .before in
-    (p .pre .0, omega arith, omega (arith, p .pre .1, p .pre .2), p .pre .3, p .pre .4)
+    (p .pre .0, omega arith, omega (arith, p .pre .1, p .pre .2), p .pre .3, p .pre .4, p .pre .6)
 
 -- What a turn of the loop adds is within the cap.
 capped : (c : tie.After-term Inv-loop μ-loop) → c .term .result ≤ c .before .before .before .before .before .before .args .cap
@@ -35,7 +36,7 @@ capped c = rw (c .term .ensures) (term-within-cap _ _ _ _ _ _)
 add-sum : tie.Need-add-sum Inv-loop μ-loop
 add-sum c =
     let p = c .before .before .before .before .before .before in
-    omega (arith, p .pre .0 .rows .at-most, p .pre .1, p .pre .5, capped c)
+    omega (arith, few-rows _ (p .pre .0 .rows), p .pre .1, p .pre .5, capped c)
 
 add-other : tie.Need-add-other Inv-loop μ-loop
 add-other c = search needs

@@ -4,12 +4,12 @@ use mathlib.Core.Path.{_∙_, ap₂}
 use Prim.Native.Nat.{min}
 use lib.ListN.{getD}
 use denote.Ref.{now}
+use Rattle.model.proofs.Sheet.{row-sized}
 use Rattle.model.specs.Sheet.{triples}
 use Rattle.model.specs.Interference.{work, workOf}
 use Rattle.rows.specs.Words.{sheetOf}
-use Rattle.rows.proofs.Checks.{sound-row}
 use Rattle.refinement.specs.Inner.{termOf}
-use Rattle.refinement.proofs.Limits.{bound-in-range, work-positive}
+use Rattle.refinement.proofs.Limits.{work-positive}
 use Rattle.refinement.proofs.Sizes.{sizes}
 use native.Mathlib.Omega.{arith}
 use Rattle.response.proofs.term.Statement.{statement}
@@ -28,11 +28,10 @@ returns : tie.Need-returns
 unfolding termOf workOf
 returns c =
     let p = c .before .before .before .before .before .before in
-    let words = now (p .args .words) in
+    let s = sheetOf (now (p .args .words)) in
     let other = p .args .other in
-    let bounds = now (p .args .bounds) in
-    let some-work = work-positive ((sheetOf words) .cost other) ((sheetOf words) .period other) (getD bounds other 0) (p .args .x)
-    (sound-row words (p .pre .0 .rows) other (p .pre .1) .positive) (bound-in-range words bounds (p .pre .0) other (p .pre .1) .0) (p .pre .3) in
+    let some-work = work-positive (s .cost other) (s .period other) (getD (now (p .args .bounds)) other 0) (p .args .x)
+    (row-sized _ (p .pre .0 .rows) other (p .pre .1) .positive) (p .pre .0 .in-range other (p .pre .1) .0) (p .pre .3) in
     omega arith
 
 mul-at : tie.Need-mul-at
@@ -48,6 +47,7 @@ shared-slice-read-time : tie.Need-shared-slice-read-time
 shared-slice-read-time c = search needs
 
 add-time : tie.Need-add-time
+unfolding sheetOf triples
 add-time c = let p = c .before .before .before .before .before .before .before in let known = sizes _ _ (p .pre .0) (p .args .other) (p .pre .1) in omega (arith, c .before .before .before .before .before .before .before .pre .4)
 
 mul-time-2 : tie.Need-mul-time-2
@@ -57,6 +57,7 @@ shared-slice-read-time-2 : tie.Need-shared-slice-read-time-2
 shared-slice-read-time-2 c = search needs
 
 sub-time : tie.Need-sub-time
+unfolding sheetOf triples
 sub-time c = let p = c .before .before .before .before .before .before .before .before in let known = sizes _ _ (p .pre .0) (p .args .other) (p .pre .1) in omega arith
 
 mul-work-in-time : tie.Need-mul-work-in-time
@@ -72,6 +73,7 @@ shared-slice-read-work-in-time-2 : tie.Need-shared-slice-read-work-in-time-2
 shared-slice-read-work-in-time-2 c = search needs
 
 work-in-time-requires : tie.Need-work-in-time-requires
+unfolding sheetOf triples
 work-in-time-requires c κs =
     let p = c .before .before .before .before .before .before .before .before .before .before in
     let known = sizes _ _ (p .pre .0) (p .args .other) (p .pre .1) in

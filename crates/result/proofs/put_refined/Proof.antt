@@ -2,9 +2,9 @@
 use borrow.Author.Needs.{needs}
 use mathlib.Core.Path.{_∙_}
 use lib.ListN.{replicate}
-use denote.Ref.{now}
+use Rattle.model.proofs.Sheet.{few-rows}
 use Rattle.refinement.proofs.Refinement.{refining}
-use Rattle.report.proofs.Entries.{bound-each, refined-text}
+use Rattle.report.proofs.Entries.{word-each, refined-text}
 use native.Mathlib.Omega.{arith}
 use Rattle.result.proofs.put_refined.Statement.{statement}
 use Rattle.result.proofs.put_refined.Tie as tie
@@ -22,8 +22,8 @@ put-result-requires : tie.Need-put-result-requires
 put-result-requires c κs =
     let s = c .before .before .before .before .before .before .before in
     let refined = c .before .before .before .refine-at-once in
-    let each = bound-each (now (s .args .words)) (s .args .processors) (s .args .method) (replicate 64 0) (s .pre .0) _ _ (refined .ensures .0) (refined .ensures .1) in
-    (omega (arith, s .pre .1, refining _ _ _ _ (s .pre .0) .rows .at-most), omega (arith, s .pre .1, each), s .pre .2)
+    let each = word-each _ _ _ _ (replicate 64 0) (s .pre .0) _ _ (refined .ensures .0) (refined .ensures .1) in
+    (omega (arith, s .pre .1, few-rows _ (refining _ _ _ _ _ _ (s .pre .0) .posed .sizes)), omega (arith, s .pre .1, each), s .pre .2)
 
 same-length : tie.Need-same-length
 same-length c = search needs
@@ -33,7 +33,7 @@ returns c =
     let s = c .before .before .before .before .before .before .before .before .before .before in
     let refined = c .before .before .before .before .before .before .refine-at-once in
     c .before .before .put-result .ensures
-    ∙ refined-text (now (s .args .words)) (s .args .processors) (s .args .method) (replicate 64 0) (s .pre .0) _ _ (refined .ensures .0) (refined .ensures .1)
+    ∙ refined-text _ _ _ _ (replicate 64 0) (s .pre .0) _ _ (refined .ensures .0) (refined .ensures .1)
     (s .args .rows) (s .pre .1)
 
 pub put-refined-spec : {M : Type 1} → statement M

@@ -3,9 +3,10 @@ use borrow.Author.Needs.{needs}
 use mathlib.Core.Path.{_≡_, ap}
 use Prim.Native.Nat.{ℕ, _+_, _*_, _/_}
 use lib.ListN.{length}
-use Rattle.rows.specs.Words.{rowCount}
+use Rattle.model.specs.Sheet.{triples}
+use Rattle.rows.specs.Words.{sheetOf}
+use Rattle.refinement.proofs.Refinement.{refusal-made}
 use Rattle.report.specs.Lines.{resultHead, resultLine, resultLength}
-use Rattle.report.proofs.Entries.{chain}
 use native.Mathlib.Omega.{arith}
 use Rattle.result.proofs.result_refusal.Statement.{statement}
 use Rattle.result.proofs.result_refusal.Tie as tie
@@ -14,14 +15,14 @@ row-count-requires : tie.Need-row-count-requires
 row-count-requires c κs = search needs
 
 mul-need : tie.Need-mul-need
-unfolding rowCount
+unfolding sheetOf triples
 mul-need c =
     let s = c .before .before in
     let rows : c .row-count .result ≡ length (s .args .words .now) / 3 = c .row-count .ensures in
     omega (arith, s .good .0 .1)
 
 add-need : tie.Need-add-need
-unfolding rowCount
+unfolding sheetOf triples
 add-need c =
     let s = c .before .before in
     let rows : c .row-count .result ≡ length (s .args .words .now) / 3 = c .row-count .ensures in
@@ -53,7 +54,7 @@ returns c =
     let rest = four .before in
     let seven = rest .before in
     let five = seven .before in
-    chain _ _ _ _ (five .method-refusal .ensures) (ap (λ (n : ℕ). 7 + 11 * n) (five .before .row-count .ensures)) (seven .room-refusal .ensures)
+    refusal-made _ _ _ _ _ _ (five .method-refusal .ensures) (ap (λ (n : ℕ). 7 + 11 * n) (five .before .row-count .ensures)) (seven .room-refusal .ensures)
     (rest .first-of .ensures) (four .processors-refusal .ensures) (whole .first-of2 .ensures) (c .words-refusal .ensures)
 
 pub result-refusal-spec : {M : Type 1} → statement M

@@ -6,13 +6,16 @@ use Prim.Native.Nat.{ℕ, _+_, _*_}
 use lib.ListN.{length, take, drop}
 use lib.Seq.{length-take-le}
 use Rattle.rows.specs.declared.Refusal.{Refusal}
-use Rattle.rows.specs.Words.{rowCount}
+use Rattle.model.proofs.Sheet.{few-rows}
+use Rattle.rows.specs.Words.{sheetOf}
+use Rattle.rows.specs.Checks.{notWhole}
+use Rattle.refinement.proofs.Refinement.{refining}
 use Rattle.grammar.specs.declared.Written.{Written}
 use Rattle.grammar.specs.Sheets.{writeAnswer}
 use Rattle.grammar.proofs.Refusals.{write-refused, write-accepted}
 use Rattle.report.specs.Lines.{resultHead, resultLine, resultLength}
-use Rattle.report.specs.Result.{resultOf, resultRefusal, writeResult, resultAfter, Reportable}
-use Rattle.report.proofs.Entries.{reportable, refines, result-of-length}
+use Rattle.report.specs.Result.{resultOf, resultRefusal, writeResultOf, resultSpaceOf, Reportable}
+use Rattle.report.proofs.Entries.{refines, result-of-length}
 use native.Mathlib.Omega.{arith}
 use Rattle.laws.specs.Fill.{atFront}
 use Rattle.laws.proofs.Fill.{front-left, front-put}
@@ -27,14 +30,14 @@ abbrev start : tie.After-result-refusal → tie.Start
 start c = c .before .before .before
 
 returns : tie.Need-returns
-unfolding writeResult resultAfter
+unfolding writeResultOf resultSpaceOf
 returns c =
     let q = c .before in
     let a = start q .args in (
-      write-refused (q .result-refusal .result) (resultLength (rowCount (a .words .now))) (c .if1 .taken)
-          ∙ ap (λ (f : Refusal). writeAnswer f (resultLength (rowCount (a .words .now)))) (q .result-refusal .ensures),
-      front-left (q .result-refusal .result .number) (resultOf (a .words .now) (a .processors) (a .method)) (a .out .now) (c .if1 .taken)
-          ∙ ap (λ (f : Refusal). atFront (f .number) (resultOf (a .words .now) (a .processors) (a .method)) (a .out .now)) (q .result-refusal .ensures),
+      write-refused (q .result-refusal .result) (resultLength ((sheetOf (a .words .now)) .rows)) (c .if1 .taken)
+          ∙ ap (λ (f : Refusal). writeAnswer f (resultLength ((sheetOf (a .words .now)) .rows))) (q .result-refusal .ensures),
+      front-left (q .result-refusal .result .number) (resultOf (sheetOf (a .words .now)) (a .processors) (a .method)) (a .out .now) (c .if1 .taken)
+          ∙ ap (λ (f : Refusal). atFront (f .number) (resultOf (sheetOf (a .words .now)) (a .processors) (a .method)) (a .out .now)) (q .result-refusal .ensures),
     )
 
 row-count-requires : tie.Need-row-count-requires
@@ -46,23 +49,23 @@ passed : (c : tie.Else1) → let a = start (c .before) .args in
 passed c = sym (ap (λ (r : Refusal). r .number) (c .before .result-refusal .ensures)) ∙ c .if1 .left
 
 facts : (c : tie.Else1) → let a = start (c .before) .args in
-    Reportable (a .words .now) (a .processors) (a .method) (length (a .out .now))
-facts c = reportable _ _ _ _ (passed c)
+    Reportable (notWhole (a .words .now)) (sheetOf (a .words .now)) (a .processors) (a .method) (length (a .out .now))
+facts c = refining _ _ _ _ _ _ (passed c)
 
 cast-rows : tie.Need-cast-rows
-cast-rows c = omega (arith, facts (c .before) .rows .at-most)
+cast-rows c = omega (arith, few-rows _ (facts (c .before) .posed .sizes))
 
 cast-length : tie.Need-cast-length
 cast-length c = search needs
 
 mul-length : tie.Need-mul-length
-mul-length c = omega (arith, facts (c .before) .rows .at-most)
+mul-length c = omega (arith, few-rows _ (facts (c .before) .posed .sizes))
 
 add-length : tie.Need-add-length
-add-length c = omega (arith, facts (c .before) .rows .at-most)
+add-length c = omega (arith, few-rows _ (facts (c .before) .posed .sizes))
 
 -- The result's length.
-size : (c : tie.After-row-count) → 7 + 11 * c .row-count .result ≡ resultLength (rowCount (start (c .before .before) .args .words .now))
+size : (c : tie.After-row-count) → 7 + 11 * c .row-count .result ≡ resultLength ((sheetOf (start (c .before .before) .args .words .now)) .rows)
 unfolding resultLength resultHead resultLine
 size c = ap (λ (n : ℕ). 7 + 11 * n) (c .row-count .ensures)
 
@@ -79,25 +82,25 @@ slice-aggregate-put-refined c = sym (part (c .before))
 put-refined-requires : tie.Need-put-refined-requires
 unfolding resultLength resultHead resultLine
 put-refined-requires c κs =
-    (refines _ _ _ _ (facts (c .before .before)), c .before .row-count .ensures, part (c .before))
+    (refines _ _ _ _ _ (facts (c .before .before)), c .before .row-count .ensures, part (c .before))
 
 cast-written : tie.Need-cast-written
-cast-written c = let r = c .before .before .before .before in omega (arith, facts (r .before) .rows .at-most)
+cast-written c = let r = c .before .before .before .before in omega (arith, few-rows _ (facts (r .before) .posed .sizes))
 
 same-length : tie.Need-same-length
 same-length c = search needs
 
 returns-2 : tie.Need-returns-2
-unfolding writeResult resultAfter
+unfolding writeResultOf resultSpaceOf
 returns-2 c =
     let r = c .before .before .before .before in
     let a = start (r .before .before) .args in
-    let text = resultOf (a .words .now) (a .processors) (a .method) in
+    let text = resultOf (sheetOf (a .words .now)) (a .processors) (a .method) in
     let none-holds = passed (r .before) in (
       ap (λ (n : ℕ). let w : Written = record { refusal = 0; place = 0; length = n } in w) (size r)
-          ∙ write-accepted (resultRefusal (a .words .now) (a .processors) (a .method) (length (a .out .now))) (resultLength (rowCount (a .words .now))) none-holds,
+          ∙ write-accepted (resultRefusal (a .words .now) (a .processors) (a .method) (length (a .out .now))) (resultLength ((sheetOf (a .words .now)) .rows)) none-holds,
       ap₂ (λ (l : List ℕ) (n : ℕ). l ++ drop n (a .out .now)) (c .before .before .put-refined .ensures)
-          (size r ∙ sym (result-of-length (a .words .now) (a .processors) (a .method)))
+          (size r ∙ sym (result-of-length (sheetOf (a .words .now)) (a .processors) (a .method)))
           ∙ front-put _ text (a .out .now) none-holds,
     )
 

@@ -1,11 +1,12 @@
--- `rows::row_count` meets its contract: it is the definition.
+-- `rows::row_count` meets its contract: it is how many rows the sheet of the words is said to have.
 use mathlib.Core.Path.{refl}
-use Rattle.rows.specs.Words.{rowCount}
+use Rattle.model.specs.Sheet.{triples}
+use Rattle.rows.specs.Words.{sheetOf}
 use Rattle.rows.proofs.row_count.Statement.{statement}
 use Rattle.rows.proofs.row_count.Tie as tie
 
 returns : tie.Need-returns
-unfolding rowCount
+unfolding sheetOf triples
 returns c = refl
 
 pub row-count-spec : {M : Type 1} → statement M

@@ -5,7 +5,8 @@ use Prim.Native.Nat.{ℕ, _≤_}
 use native.Mathlib.Omega.{arith}
 use borrow.Author.Needs.{needs}
 use Rattle.laws.proofs.Choice.{is-refused, not-refused}
-use Rattle.rows.specs.Words.{rowCount, sheetOf, foundOf, firstOutside}
+use Rattle.model.specs.Sheet.{triples}
+use Rattle.rows.specs.Words.{sheetOf, foundOf, firstOutside}
 use Rattle.rows.specs.Checks.{firstOf, rowsRefusal, refused, wordsRefusal}
 use Rattle.rows.specs.Inner.{shapeRefusal}
 use Rattle.rows.proofs.Words.{found-some, found-none}
@@ -44,7 +45,7 @@ cast-first-outside : tie.Need-cast-first-outside
 cast-first-outside c =
     let before = c .before .before in
     let zero : number before ≡ 0 = sym (gave before) ∙ c .before .if1 .left in
-    let few : rowCount (words before) ≤ 64 = shape-few (words before) (first-of-zero _ _ zero .0) in
+    let few : (sheetOf (words before)) .rows ≤ 64 = shape-few (words before) (first-of-zero _ _ zero .0) in
     omega arith
 
 first-outside-requires : tie.Need-first-outside-requires
@@ -52,7 +53,7 @@ first-outside-requires c κs = search needs
 
 -- What the search found, and what is left to say of it.
 found : (c : tie.After-first-outside) → c .first-outside .result ≡ foundOf (firstOutside (sheetOf (words (c .before .before .before))))
-unfolding sheetOf
+unfolding sheetOf triples
 found c = rw (← c .before .row-count .ensures) (c .first-outside .ensures)
 
 left : (c : tie.After-first-outside)

@@ -1,11 +1,13 @@
 -- `cap_line` is the cap itself: it stays for BCL, and falls with the row's own steps for RTA.
 use native.Mathlib.Omega.{arith}
 use denote.Ref.{now}
+use mathlib.Core.Path.{refl}
 use Prim.Native.Nat.{ℕ, _*_, _≤_}
 use lib.ListN.{getD}
 use native.Mathlib.Nat.{mul-le-mul, le-refl}
-use Rattle.rows.proofs.Words.{cost-word, sheet-rows}
-use Rattle.rows.proofs.Checks.{sound-row}
+use Rattle.model.specs.Sheet.{triples}
+use Rattle.model.proofs.Sheet.{row-sized}
+use Rattle.rows.specs.Words.{sheetOf}
 use Rattle.refinement.proofs.Ways.{cap-level, cap-with-row}
 use borrow.Author.Needs.{needs}
 use Rattle.slopes.proofs.cap_line.Statement.{statement}
@@ -31,48 +33,52 @@ record Sizes (cost window first : ℕ) : Type 0 where
   small : window ≤ 1_000_000
   by-limit : first ≤ 1_000_000
 
-sizes : (s : tie.Start) → Sizes (getD (now (s .args .words)) (3 * s .args .way .row) 0) (s .args .way .window) (s .args .way .first)
+sizes : (s : tie.Start) → Sizes ((sheetOf (now (s .args .words))) .cost (s .args .way .row)) (s .args .way .window) (s .args .way .first)
 sizes s =
-    let words = now (s .args .words) in
     let row = s .args .way .row in
     let way = s .pre .0 in
     let aim = s .pre .1 in
-    let sized = sound-row words (way .ready .rows) row (way .inside) in
-    let range = way .ready .in-range row (rw (sheet-rows words) (way .inside)) in
-    let cost = cost-word words row in
+    let sized = row-sized _ (way .ready .rows) row (way .inside) in
+    let range = way .ready .in-range row (way .inside) in
     let steps : 1 * getD (now (s .args .drops)) row 0 ≤ s .args .way .most * getD (now (s .args .drops)) row 0 = mul-le-mul (s .pre .2) (le-refl _) in
     record { positive = omega arith; by-window = omega (arith, aim .by-deadline); from-cost = omega (arith, way .own, aim .by-bound, aim .by-drop); small = omega (arith, aim .by-deadline); by-limit = omega (arith, aim .by-bound) }
 
 sub-t11 : tie.Need-sub-t11
+unfolding sheetOf triples
 sub-t11 c = let p = c .before .before .before .before .before in let known = sizes p in omega arith
 
 add-t12 : tie.Need-add-t12
+unfolding sheetOf triples
 add-t12 c = let p = c .before .before .before .before .before in let known = sizes p in omega arith
 
 returns : tie.Need-returns
+unfolding sheetOf triples
 returns c =
     let p = c .before .before .before .before .before in
     let way = p .args .way in
     let known = sizes p in
     record {
       small = omega arith;
-      lies = cap-level _ _ _ _ _ (p .pre .0) (way .method) (way .window) (way .first) (way .fall) _ (p .pre .1) (cost-word _ (way .row)) (c .before .if1 .taken);
+      lies = cap-level _ _ _ _ _ (p .pre .0) (way .method) (way .window) (way .first) (way .fall) _ (p .pre .1) refl (c .before .if1 .taken);
     }
 
 sub-t9 : tie.Need-sub-t9
+unfolding sheetOf triples
 sub-t9 c = let p = c .before .before .before .before .before in let known = sizes p in omega arith
 
 add-t13 : tie.Need-add-t13
+unfolding sheetOf triples
 add-t13 c = let p = c .before .before .before .before .before in let known = sizes p in omega arith
 
 returns-2 : tie.Need-returns-2
+unfolding sheetOf triples
 returns-2 c =
     let p = c .before .before .before .before .before in
     let way = p .args .way in
     let known = sizes p in
     record {
       small = omega arith;
-      lies = cap-with-row _ _ _ _ _ (p .pre .0) (way .method) (way .window) (way .first) (way .fall) _ (p .pre .1) (cost-word _ (way .row)) (c .before .if1 .left);
+      lies = cap-with-row _ _ _ _ _ (p .pre .0) (way .method) (way .window) (way .first) (way .fall) _ (p .pre .1) refl (c .before .if1 .left);
     }
 
 pub cap-line-spec : {M : Type 1} → statement M

@@ -1,13 +1,12 @@
 -- `term_line` is the lowest of the lines over share, cap and work, of which the term is the least.
 use native.Mathlib.Omega.{arith}
 use denote.Ref.{now}
-use Prim.Native.Nat.{ℕ, _+_, _*_, _≤_, _<_}
-use lib.ListN.{length, getD}
+use Prim.Native.Nat.{ℕ, _≤_}
+use lib.ListN.{getD}
 use native.Mathlib.Nat.{le-trans}
+use Rattle.model.proofs.Sheet.{row-sized}
 use Rattle.model.specs.Sheet.{triples}
 use Rattle.rows.specs.Words.{sheetOf}
-use Rattle.rows.proofs.Words.{cost-word, deadline-word, period-word, sheet-rows}
-use Rattle.rows.proofs.Checks.{sound-row}
 use Rattle.refinement.proofs.Ways.{time-room, bcl-lies, rta-lies}
 use borrow.Author.Needs.{needs}
 use Rattle.slopes.proofs.term_line.Statement.{statement}
@@ -52,8 +51,8 @@ mul-share-line-3 c = search needs
 shared-slice-read-share-line-3 : tie.Need-shared-slice-read-share-line-3
 shared-slice-read-share-line-3 c = search needs
 
--- What is known of the other row's words, bound and drop, and of the way.
-record Sizes (cost deadline period bound drop window first fall at whole : ℕ) : Type 0 where
+-- What is known of the other row's numbers, bound and drop, and of the way.
+record Sizes (cost deadline period bound drop window first fall : ℕ) : Type 0 where
   some-period : 1 ≤ period
   by-deadline : cost ≤ deadline
   by-period : deadline ≤ period
@@ -64,26 +63,21 @@ record Sizes (cost deadline period bound drop window first fall at whole : ℕ) 
   small-window : window ≤ 1_000_000
   small-first : first ≤ 1_000_000
   small-fall : fall ≤ 1_000_000
-  in-words : at + 2 < whole
 
-sizes : (s : tie.Start) → let words = now (s .args .words) in
+sizes : (s : tie.Start) → let sheet = sheetOf (now (s .args .words)) in
     let other = s .args .other in
     let way = s .args .way in
-    Sizes (getD words (3 * other) 0) (getD words (3 * other + 1) 0) (getD words (3 * other + 2) 0) (getD (now (s .args .bounds)) other 0)
-    (getD (now (s .args .drops)) other 0) (way .window) (way .first) (way .fall) (3 * other) (length words)
+    Sizes (sheet .cost other) (sheet .deadline other) (sheet .period other) (getD (now (s .args .bounds)) other 0)
+    (getD (now (s .args .drops)) other 0) (way .window) (way .first) (way .fall)
 sizes s =
-    let words = now (s .args .words) in
     let other = s .args .other in
     let row = s .args .way .row in
     let way = s .pre .0 in
     let aim = s .pre .1 in
-    let sized = sound-row words (way .ready .rows) other (s .pre .2) in
-    let own = sound-row words (way .ready .rows) row (way .inside) in
-    let range = way .ready .in-range other (rw sheet-rows (s .pre .2)) in
-    let own-range = way .ready .in-range row (rw sheet-rows (way .inside)) in
-    let cost = cost-word words other in
-    let deadline = deadline-word words other in
-    let period = period-word words other in
+    let sized = row-sized _ (way .ready .rows) other (s .pre .2) in
+    let own = row-sized _ (way .ready .rows) row (way .inside) in
+    let range = way .ready .in-range other (s .pre .2) in
+    let own-range = way .ready .in-range row (way .inside) in
     record {
       some-period = omega arith;
       by-deadline = omega arith;
@@ -95,10 +89,10 @@ sizes s =
       small-window = omega (arith, aim .by-deadline);
       small-first = omega (arith, aim .by-bound);
       small-fall = omega (arith, aim .by-drop, way .drops-small .each row (way .inside));
-      in-words = omega (arith, way .ready .rows);
     }
 
 share-line-requires : tie.Need-share-line-requires
+unfolding sheetOf triples
 share-line-requires c κs = let known = sizes (c .before .before .before .before .before .before .before .before) in omega arith
 
 lower-line-requires : tie.Need-lower-line-requires
@@ -117,6 +111,7 @@ returns c =
     }
 
 add-time : tie.Need-add-time
+unfolding sheetOf triples
 add-time c = let known = sizes (c .before .before .before .before .before .before .before .before .before .before .before .before .before) in omega arith
 
 mul-time : tie.Need-mul-time
@@ -126,6 +121,7 @@ shared-slice-read-time : tie.Need-shared-slice-read-time
 shared-slice-read-time c = search needs
 
 sub-time : tie.Need-sub-time
+unfolding sheetOf triples
 sub-time c = let known = sizes (c .before .before .before .before .before .before .before .before .before .before .before .before .before .before) in omega arith
 
 mul-work-line : tie.Need-mul-work-line
@@ -138,9 +134,10 @@ mul-work-line-2 : tie.Need-mul-work-line-2
 mul-work-line-2 c = search needs
 
 shared-slice-read-work-line-2 : tie.Need-shared-slice-read-work-line-2
-shared-slice-read-work-line-2 c = let known = sizes (c .before .before .before .before .before .before .before .before .before .before .before .before .before .before .before .before) in omega arith
+shared-slice-read-work-line-2 c = search needs
 
 add-work-line : tie.Need-add-work-line
+unfolding sheetOf triples
 add-work-line c = let known = sizes (c .before .before .before .before .before .before .before .before .before .before .before .before .before .before .before .before .before) in omega arith
 
 work-line-requires : tie.Need-work-line-requires

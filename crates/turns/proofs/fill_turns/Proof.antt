@@ -1,10 +1,11 @@
 -- `fill_turns` stores each row's turn behind those before it and gathers the marks, all from the bounds at its start.
 use borrow.Author.Needs.{needs}
-use mathlib.Core.Path.{_≡_, refl, sym, _∙_, ap}
+use mathlib.Core.Path.{_≡_, refl, _∙_, ap}
 use mathlib.Core.List.{_++_}
 use Prim.Native.Nat.{_-_, _≤_}
 use lib.ListN.{length, drop, length-set}
 use denote.Ref.{now}
+use Rattle.model.proofs.Sheet.{few-rows}
 use Rattle.laws.specs.Sum.{total}
 use Rattle.laws.specs.Fill.{listed}
 use Rattle.laws.specs.Bits.{bits}
@@ -12,7 +13,6 @@ use Rattle.laws.proofs.Fill.{listed-none, listed-more, listed-all}
 use Rattle.laws.proofs.Bits.{bits-below, bits-next}
 use Rattle.model.specs.Refine.{turn, round, marked, marks}
 use Rattle.rows.specs.Words.{sheetOf}
-use Rattle.rows.proofs.Words.{sheet-rows}
 use Rattle.refinement.specs.Refinement.{askOf}
 use Rattle.refinement.proofs.Steps.{turn-found, mark-found}
 use native.Mathlib.Omega.{arith}
@@ -23,8 +23,8 @@ abbrev Inv-loop : tie.InvT-loop
 Inv-loop words bounds processors method count next₀ seen₀ row₀ next seen row =
     (row ≤ count)
     × (length next ≡ count)
-    × (seen ≡ bits (marked (askOf words processors method) bounds) row)
-    × (next ≡ listed (λ k. turn (sheetOf words) (askOf words processors method) k bounds) row ++ drop row next₀)
+    × (seen ≡ bits (marked (askOf (sheetOf words) processors method) bounds) row)
+    × (next ≡ listed (λ k. turn (sheetOf words) (askOf (sheetOf words) processors method) k bounds) row ++ drop row next₀)
 
 abbrev μ-loop : tie.MeasureT-loop
 μ-loop words bounds processors method count next₀ seen₀ row₀ next seen row = count - row
@@ -36,13 +36,13 @@ loop-holds c = (omega arith, c .before .before .before .pre .3, refl, listed-non
 answer-row-requires : tie.Need-answer-row-requires Inv-loop μ-loop
 answer-row-requires c κs =
     let p = c .before .before .before .before .before in
-    (p .pre .0, omega (arith, p .pre .1), p .pre .1, p .pre .2)
+    (p .pre .0, omega (arith, p .pre .1), p .pre .1, p .pre .2, p .pre .4)
 
 with-mark-requires : tie.Need-with-mark-requires Inv-loop μ-loop
 with-mark-requires c κs =
     let p = c .before .before .before .before .before .before in
     let q = c .before .before .loop in
-    (omega (arith, p .pre .0 .rows .at-most, p .pre .1), rw (q .inv .2) (bits-below _ (q .row)))
+    (omega (arith, few-rows _ (p .pre .0 .rows), p .pre .1), rw (q .inv .2) (bits-below _ (q .row)))
 
 deadline-requires : tie.Need-deadline-requires Inv-loop μ-loop
 deadline-requires c κs = search needs
@@ -87,7 +87,7 @@ returns c =
     let p = c .before .before .before .before .before in
     let q = c .before .loop in
     let done : q .row ≡ p .args .count = omega arith in
-    let all : q .row ≡ (sheetOf (now (p .args .words))) .rows = done ∙ p .pre .1 ∙ sym (sheet-rows (now (p .args .words))) in (
+    let all : q .row ≡ (sheetOf (now (p .args .words))) .rows = done ∙ p .pre .1 in (
       q .inv .2 ∙ ap (bits _) all,
       listed-all _ (q .row) (now (p .args .next)) (q .next) (omega (arith, p .pre .3)) (q .inv .3) ∙ ap (listed _) all,
     )

@@ -5,8 +5,8 @@ use mathlib.Core.Logic.{⊎-elim, inl, inr}
 use Prim.Native.Nat.{_-_}
 use lib.ListN.{length, getD, length-set}
 use denote.Ref.{now}
-use Rattle.rows.specs.Words.{rowCount, sheetOf, foundOf}
-use Rattle.rows.proofs.Words.{sheet-rows}
+use Rattle.model.proofs.Sheet.{few-rows}
+use Rattle.rows.specs.Words.{sheetOf, foundOf}
 use Rattle.refinement.specs.Refinement.{askOf}
 use Rattle.refinement.specs.Question.{Ready}
 use Rattle.refinement.proofs.ByMethod.{found-told}
@@ -18,7 +18,7 @@ use Rattle.turns.proofs.sweep_rows.Tie as tie
 abbrev Inv-loop : tie.InvT-loop
 Inv-loop words bounds₀ before₀ processors method count others₀ room₀ moved₀ seen₀ row₀ bounds before others room moved seen row =
     (length bounds ≡ count)
-    × Sweeping (sheetOf words) (askOf words processors method) bounds₀ bounds moved seen row
+    × Sweeping (sheetOf words) (askOf (sheetOf words) processors method) bounds₀ bounds moved seen row
     × (length others ≡ 320)
     × (length room ≡ count)
     × (length before ≡ count)
@@ -29,33 +29,33 @@ abbrev μ-loop : tie.MeasureT-loop
 loop-holds : tie.Need-loop-holds Inv-loop μ-loop
 loop-holds c =
     let p = c .before .before .before .before .before in
-    (omega (arith, p .pre .0 .one-each, p .pre .1), sweep-start _ _ _, p .pre .5, p .pre .6, p .pre .7)
+    (omega (arith, p .pre .0 .ready .one-each, p .pre .0 .counted), sweep-start _ _ _, p .pre .1, p .pre .2, p .pre .3)
 
 -- The bounds are in range before each row.
-ready : (c : tie.In-loop Inv-loop μ-loop) → Ready (now (c .before .before .before .before .before .before .before .args .words)) (c .before .loop .bounds)
+ready : (c : tie.In-loop Inv-loop μ-loop) → Ready (sheetOf (now (c .before .before .before .before .before .before .before .args .words))) (c .before .loop .bounds)
 ready c =
     let p = c .before .before .before .before .before .before .before in
     let q = c .before .loop in
-    let regular = ask-regular (now (p .args .words)) (p .args .processors) (p .args .method) in
-    ready-lower _ _ regular _ _ (p .pre .0) (sweeping-held _ _ regular _ (p .pre .3) _ _ _ _ (q .inv .1)) (sweeping-below _ _ regular _ (p .pre .3) _ _ _ _ (q .inv .1))
+    let regular = ask-regular _ (p .args .processors) (p .args .method) in
+    ready-lower _ _ regular _ _ (p .pre .0 .ready) (sweeping-held _ _ regular _ (p .pre .0 .held) _ _ _ _ (q .inv .1)) (sweeping-below _ _ regular _ (p .pre .0 .held) _ _ _ _ (q .inv .1))
 
 bound-quickly-requires : tie.Need-bound-quickly-requires Inv-loop μ-loop
 bound-quickly-requires c κs =
     let p = c .before .before .before .before .before .before .before .before .before .before in
     let q = c .before .before .before .before .loop in
-    (ready (c .before .before .before), omega (arith, p .pre .1), p .pre .1, p .pre .2, p .pre .4, q .inv .2, q .inv .3)
+    (ready (c .before .before .before), omega (arith, p .pre .0 .counted), p .pre .0 .counted, p .pre .0 .some-processor, p .pre .0 .few, q .inv .2, q .inv .3, p .pre .4)
 
 found-of-requires : tie.Need-found-of-requires Inv-loop μ-loop
 found-of-requires c κs = search needs
 
 -- The row's answer.
 told : (c : tie.After-found-of Inv-loop μ-loop) → let p = c .before .before .before .before .before .before .before .before .before .before .before .before .before .before .before .before in
-    c .found-of .result ≡ foundOf (askOf (now (p .args .words)) (p .args .processors) (p .args .method) (c .before .before .before .before .before .before .before .before .before .before .loop .row) (c .before .before .before .before .before .before .before .before .before .before .loop .bounds))
+    c .found-of .result ≡ foundOf (askOf (sheetOf (now (p .args .words))) (p .args .processors) (p .args .method) (c .before .before .before .before .before .before .before .before .before .before .loop .row) (c .before .before .before .before .before .before .before .before .before .before .loop .bounds))
 unfolding askOf
 told c =
     let p = c .before .before .before .before .before .before .before .before .before .before .before .before .before .before .before .before in
     let q = c .before .before .before .before .before .before .before .before .before .before .loop in
-    found-told (now (p .args .words)) (q .bounds) (p .args .processors) (q .row) (p .args .method) _ _ (ready (c .before .before .before .before .before .before .before .before .before)) (omega (arith, p .pre .1)) (c .before .before .before .before .before .bound-quickly .ensures) (c .found-of .ensures)
+    found-told _ (q .bounds) (p .args .processors) (q .row) (p .args .method) _ _ (ready (c .before .before .before .before .before .before .before .before .before)) (omega (arith, p .pre .0 .counted)) (c .before .before .before .before .before .bound-quickly .ensures) (c .found-of .ensures)
 
 deadline-requires : tie.Need-deadline-requires Inv-loop μ-loop
 deadline-requires c κs = search needs
@@ -64,7 +64,7 @@ bound-or-requires : tie.Need-bound-or-requires Inv-loop μ-loop
 bound-or-requires c κs = search needs
 
 with-mark-requires : tie.Need-with-mark-requires Inv-loop μ-loop
-with-mark-requires c κs = let p = c .before .before .before .before .before .before .before .before .before .before .before .before .before .before .before .before .before .before in (omega (arith, p .pre .0 .rows .at-most, p .pre .1), c .before .before .before .before .before .before .before .before .before .before .before .before .loop .inv .1 .small)
+with-mark-requires c κs = let p = c .before .before .before .before .before .before .before .before .before .before .before .before .before .before .before .before .before .before in (omega (arith, few-rows _ (p .pre .0 .ready .rows), p .pre .0 .counted), c .before .before .before .before .before .before .before .before .before .before .before .before .loop .inv .1 .small)
 
 cast-old : tie.Need-cast-old Inv-loop μ-loop
 cast-old c = search needs
@@ -104,15 +104,14 @@ unfolding askOf
 loop-again c =
     let p = c .before .before .before .before .before .before .before .before .before .before .before .before .before .before .before .before .before .before .before .before .before in
     let q = c .before .before .before .before .before .before .before .before .before .before .before .before .before .before .before .loop in
-    let words = now (p .args .words) in
     let asked = c .before .before .before .before .before .before .before .before .before .before .bound-quickly in
     let found = told (c .before .before .before .before .before) in
     let bound = c .before .before .before .bound-or in (
       length-set (q .bounds) (q .row) (bound .result) ∙ q .inv .0,
       rw (c .before .before .with-mark .ensures)
-          (sweep-on (sheetOf words) (askOf words (p .args .processors) (p .args .method)) (ask-regular words (p .args .processors) (p .args .method))
-          (now (p .args .bounds)) (p .pre .3) (q .bounds) (q .moved) (q .seen) (q .row) (q .inv .1) (c .before .before .before .before .before .found-of .result) (bound .result) (c .if1 .moved)
-          (omega (arith, c .before .before .before .before .before .before .before .before .before .before .before .before .before .before .loop-test, p .pre .1, sheet-rows words)) found (turn-found _ _ _ _ _ _ _ found (c .before .before .before .before .deadline .ensures) (bound .ensures))
+          (sweep-on _ _ (ask-regular _ (p .args .processors) (p .args .method))
+          (now (p .args .bounds)) (p .pre .0 .held) (q .bounds) (q .moved) (q .seen) (q .row) (q .inv .1) (c .before .before .before .before .before .found-of .result) (bound .result) (c .if1 .moved)
+          (omega (arith, c .before .before .before .before .before .before .before .before .before .before .before .before .before .before .loop-test, p .pre .0 .counted)) found (turn-found _ _ _ _ _ _ _ found (c .before .before .before .before .deadline .ensures) (bound .ensures))
           (⊎-elim (λ w. inl (w .0 .taken, w .1)) (λ w. inr (w .0 .left, w .1)) (c .if1 .came))),
       asked .kept .1 .1 .1 .1 .1 .1 .0 ∙ q .inv .2,
       asked .kept .1 .1 .1 .1 .1 .1 .1 .0 ∙ q .inv .3,
@@ -120,24 +119,22 @@ loop-again c =
     )
 
 same-length : tie.Need-same-length Inv-loop μ-loop
-same-length c = let p = c .before .before .before .before .before .before .before in c .before .loop .inv .0 ∙ p .pre .1 ∙ sym (p .pre .0 .one-each)
+same-length c = let p = c .before .before .before .before .before .before .before in c .before .loop .inv .0 ∙ p .pre .0 .counted ∙ sym (p .pre .0 .ready .one-each)
 
 same-length-2 : tie.Need-same-length-2 Inv-loop μ-loop
-same-length-2 c = c .before .loop .inv .4 ∙ sym (c .before .before .before .before .before .before .before .pre .7)
+same-length-2 c = c .before .loop .inv .4 ∙ sym (c .before .before .before .before .before .before .before .pre .3)
 
 same-length-3 : tie.Need-same-length-3 Inv-loop μ-loop
-same-length-3 c = c .before .loop .inv .2 ∙ sym (c .before .before .before .before .before .before .before .pre .5)
+same-length-3 c = c .before .loop .inv .2 ∙ sym (c .before .before .before .before .before .before .before .pre .1)
 
 same-length-4 : tie.Need-same-length-4 Inv-loop μ-loop
-same-length-4 c = c .before .loop .inv .3 ∙ sym (c .before .before .before .before .before .before .before .pre .6)
+same-length-4 c = c .before .loop .inv .3 ∙ sym (c .before .before .before .before .before .before .before .pre .2)
 
 returns : tie.Need-returns Inv-loop μ-loop
 returns c =
     let p = c .before .before .before .before .before .before .before in
     let q = c .before .loop in
-    let words = now (p .args .words) in
-    let done : q .row ≡ rowCount words = omega (arith, q .inv .1 .upto, p .pre .1, sheet-rows words) in
-    rw (← done) (sweep-end _ _ _ _ _ _ (q .row) (q .inv .1) (done ∙ sym (sheet-rows words)))
+    sweep-end _ _ _ _ _ _ (q .row) (q .inv .1) (omega (arith, q .inv .1 .upto, p .pre .0 .counted))
 
 pub sweep-rows-spec : {M : Type 1} → statement M
 sweep-rows-spec =

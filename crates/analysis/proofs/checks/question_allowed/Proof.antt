@@ -8,7 +8,6 @@ use borrow.Author.Tests.{lt-ltb, le-ltb, eq-eqb, ne-eqb}
 use Rattle.laws.specs.Bits.{every}
 use Rattle.laws.proofs.Choice.{and-fails, and-holds}
 use Rattle.rows.specs.Words.{sheetOf}
-use Rattle.rows.proofs.Words.{sheet-rows}
 use Rattle.refinement.specs.Question.{questionAllowed}
 use native.Mathlib.Omega.{arith}
 use Rattle.analysis.proofs.checks.question_allowed.Statement.{statement}
@@ -25,7 +24,7 @@ unfolding questionAllowed
 returns c =
     let p = c .before .before .before .before in
     let s = sheetOf (now (p .args .words)) in
-    let past : s .rows ≤ p .args .row = omega (arith, sheet-rows (now (p .args .words))) in
+    let past : s .rows ≤ p .args .row = omega arith in
     sym (and-fails _ _ (le-ltb (p .args .row) (s .rows) past))
 
 cast-if2 : tie.Need-cast-if2
@@ -36,8 +35,8 @@ unfolding questionAllowed
 returns-2 c =
     let p = c .before .before .before .before .before in
     let s = sheetOf (now (p .args .words)) in
-    let there : p .args .row < s .rows = omega (arith, sheet-rows (now (p .args .words))) in
-    let other : length (now (p .args .bounds)) ≡ s .rows → ⊥ = omega (arith, sheet-rows (now (p .args .words))) in
+    let there : p .args .row < s .rows = omega arith in
+    let other : length (now (p .args .bounds)) ≡ s .rows → ⊥ = omega arith in
     sym (and-holds _ _ (lt-ltb (p .args .row) (s .rows) there) ∙ and-fails _ _ (ne-eqb (length (now (p .args .bounds))) (s .rows) other))
 
 bounds-allowed-requires : tie.Need-bounds-allowed-requires
@@ -48,9 +47,9 @@ unfolding questionAllowed
 returns-3 c =
     let p = c .before .before .before .before .before .before in
     let s = sheetOf (now (p .args .words)) in
-    let there : p .args .row < s .rows = omega (arith, sheet-rows (now (p .args .words))) in
-    let one-each : length (now (p .args .bounds)) ≡ s .rows = omega (arith, sheet-rows (now (p .args .words))) in
-    let counted : c .before .before .before .row-count .result ≡ s .rows = omega (arith, sheet-rows (now (p .args .words))) in
+    let there : p .args .row < s .rows = omega arith in
+    let one-each : length (now (p .args .bounds)) ≡ s .rows = omega arith in
+    let counted : c .before .before .before .row-count .result ≡ s .rows = omega arith in
     c .bounds-allowed .ensures
     ∙ ap (every _) counted
     ∙ sym

@@ -1,11 +1,13 @@
 -- `question_refusal` makes the first checks together, and check 9 only where they passed.
 use borrow.Author.Needs.{needs}
 use mathlib.Core.Path.{_≡_, sym, _∙_, ap}
+use mathlib.Core.List.{[], _∷_}
 use denote.Ref.{now}
+use Rattle.model.proofs.Sheet.{few-rows}
 use Rattle.rows.specs.declared.Refusal.{Refusal}
-use Rattle.rows.specs.Checks.{processorsRefusal, methodRefusal, firstOf, wordsRefusal}
-use Rattle.rows.proofs.Checks.{accepted}
-use Rattle.refinement.proofs.Question.{first-checks, refused-first, passed-first}
+use Rattle.rows.specs.Checks.{processorsRefusal, methodRefusal, firstHeld, laidRefusal, wordsRefusal}
+use Rattle.rows.proofs.Checks.{accepted, held-last, held-more}
+use Rattle.refinement.proofs.Question.{refused-first, passed-first}
 use Rattle.analysis.proofs.checks.question_refusal.Statement.{statement}
 use Rattle.analysis.proofs.checks.question_refusal.Tie as tie
 
@@ -23,29 +25,28 @@ words-refusal-requires c κs = search needs
 
 first : (c : tie.After-words-refusal) → let p = c .before .before .before .before .before .before in
     c .words-refusal .result
-    ≡ wordsRefusal (now (p .args .words)) (firstOf (processorsRefusal (p .args .processors)) (methodRefusal (p .args .method)))
+    ≡ wordsRefusal (now (p .args .words)) (firstHeld (processorsRefusal (p .args .processors) ∷ methodRefusal (p .args .method) ∷ []))
 first c =
     let q = c .before .before in
-    first-checks _ _ _ _ _ _ _ (q .before .processors-refusal .ensures) (q .method-refusal .ensures) (c .before .first-of .ensures)
-    (c .words-refusal .ensures)
+    c .words-refusal .ensures
+    ∙ ap (laidRefusal _ _) (held-more _ _ (q .before .processors-refusal .ensures) (held-last _ (q .method-refusal .ensures)) (c .before .first-of .ensures))
 
 returns : tie.Need-returns
-returns c = refused-first _ _ _ _ _ _ (first (c .before)) (c .if1 .taken)
+returns c = refused-first _ _ _ _ _ _ _ (first (c .before)) (c .if1 .taken)
 
 question-allowed-requires : tie.Need-question-allowed-requires
 question-allowed-requires c κs =
-    let p = c .before .before .before .before .before .before .before in
-    accepted (now (p .args .words)) _ (sym (ap (λ (r : Refusal). r .number) (first (c .before))) ∙ c .if1 .left) .rows .at-most
+    few-rows _ (accepted _ _ _ (sym (ap (λ (r : Refusal). r .number) (first (c .before))) ∙ c .if1 .left) .sizes)
 
 returns-2 : tie.Need-returns-2
 returns-2 c =
     let q = c .before .before in
-    passed-first _ _ _ _ _ _ (first (q .before)) (q .if1 .left) _ (sym (c .before .question-allowed .ensures) ∙ c .if2 .taken)
+    passed-first _ _ _ _ _ _ _ (first (q .before)) (q .if1 .left) _ (sym (c .before .question-allowed .ensures) ∙ c .if2 .taken)
 
 returns-3 : tie.Need-returns-3
 returns-3 c =
     let q = c .before .before in
-    passed-first _ _ _ _ _ _ (first (q .before)) (q .if1 .left) _ (sym (c .before .question-allowed .ensures) ∙ c .if2 .left)
+    passed-first _ _ _ _ _ _ _ (first (q .before)) (q .if1 .left) _ (sym (c .before .question-allowed .ensures) ∙ c .if2 .left)
 
 pub question-refusal-spec : {M : Type 1} → statement M
 question-refusal-spec =

@@ -1,12 +1,6 @@
 -- `refine_refusal` hands its own checks, in number order, to the shared ones.
 use borrow.Author.Needs.{needs}
-use mathlib.Core.Path.{_≡_}
-use mathlib.Core.List.{List}
-use Prim.Native.Nat.{ℕ}
-use Rattle.rows.specs.declared.Refusal.{Refusal}
-use Rattle.rows.specs.Words.{rowCount}
-use Rattle.rows.specs.Checks.{processorsRefusal, methodRefusal, roomRefusal, firstOf, wordsRefusal}
-use Rattle.refinement.specs.Refinement.{refineRefusal}
+use Rattle.refinement.proofs.Refinement.{refusal-made}
 use Rattle.analysis.proofs.checks.refine_refusal.Statement.{statement}
 use Rattle.analysis.proofs.checks.refine_refusal.Tie as tie
 
@@ -31,21 +25,13 @@ first-of-requires-2 c κs = search needs
 words-refusal-requires : tie.Need-words-refusal-requires
 words-refusal-requires c κs = search needs
 
--- The refusal, from what each call gave.
-chain : (words : List ℕ) (m method room : ℕ) {five need seven rest four whole : ℕ} {r : Refusal} → five ≡ methodRefusal method → need ≡ rowCount words
-    → seven ≡ roomRefusal room need → rest ≡ firstOf five seven → four ≡ processorsRefusal m → whole ≡ firstOf four rest
-    → r ≡ wordsRefusal words whole
-    → r ≡ wordsRefusal words (firstOf (processorsRefusal m) (firstOf (methodRefusal method) (roomRefusal room (rowCount words))))
-chain words m method room is-five is-need is-seven is-rest is-four is-whole is-refusal = cc
-
 returns : tie.Need-returns
-unfolding refineRefusal
 returns c =
     let whole = c .before in
     let four = whole .before in
     let rest = four .before in
     let seven = rest .before in
-    chain _ _ _ _ (seven .before .before .method-refusal .ensures) (seven .before .row-count .ensures) (seven .room-refusal .ensures)
+    refusal-made _ _ _ _ _ _ (seven .before .before .method-refusal .ensures) (seven .before .row-count .ensures) (seven .room-refusal .ensures)
     (rest .first-of .ensures) (four .processors-refusal .ensures) (whole .first-of2 .ensures) (c .words-refusal .ensures)
 
 pub refine-refusal-spec : {M : Type 1} → statement M

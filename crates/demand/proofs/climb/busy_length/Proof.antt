@@ -7,7 +7,7 @@ use Rattle.model.specs.Demand.{busy, busyLength}
 use Rattle.rows.specs.Words.{sheetOf, foundOf}
 use Rattle.laws.proofs.Climb.{Climbed, climbed-first, climbed-more, climbed-found, climbed-past}
 use Rattle.verdict.proofs.Busy.{busy-mono}
-use Rattle.verdict.proofs.Sound.{busy-from-one}
+use Rattle.verdict.proofs.Sound.{shorter-given, busy-from-one}
 use Rattle.demand.proofs.climb.busy_length.Statement.{statement}
 use Rattle.demand.proofs.climb.busy_length.Tie as tie
 
@@ -18,13 +18,13 @@ abbrev μ-loop : tie.MeasureT-loop
 μ-loop words count horizon length₀ length = horizon + 1 - length
 
 loop-holds : tie.Need-loop-holds Inv-loop μ-loop
-loop-holds c = climbed-first _ 1 (busy-from-one _ _ _ (c .before .pre))
+loop-holds c = climbed-first _ 1 (busy-from-one _ _ _ (c .before .pre .0))
 
 busy-sum-requires : tie.Need-busy-sum-requires Inv-loop μ-loop
 busy-sum-requires c κs =
-    let given = c .before .before .before .pre in
+    let p = c .before .before .before in
     let climbed = c .before .loop .inv in
-    (record { sound = given .sound; counted = given .counted; within = omega arith }, omega arith)
+    (shorter-given _ _ _ (p .pre .0) _ (omega arith), omega arith, p .pre .1)
 
 returns : tie.Need-returns Inv-loop μ-loop
 unfolding busyLength foundOf

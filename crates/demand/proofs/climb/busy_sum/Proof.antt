@@ -25,7 +25,7 @@ loop-holds c = (omega arith, refl)
 busy-part-requires : tie.Need-busy-part-requires Inv-loop μ-loop
 busy-part-requires c κs =
     let p = c .before .before .before in
-    (row-given _ _ _ (p .pre .0) _ _ (c .loop-test .taken) (le-refl (p .args .length)), p .pre .1)
+    (row-given _ _ _ (p .pre .0) _ _ (c .loop-test .taken) (le-refl (p .args .length)), p .pre .1, p .pre .2)
 
 add-sum : tie.Need-add-sum Inv-loop μ-loop
 add-sum c =
@@ -44,10 +44,9 @@ loop-again c = (omega arith, rw (total-step, ← c .before .before .loop .inv .1
 returns : tie.Need-returns Inv-loop μ-loop
 unfolding busy
 returns c =
-    let p = c .before .before .before in
     let q = c .before .loop in
     q .inv .1
-    ∙ ap (total (busyOf (sheetOf (p .args .words .now)) (p .args .length))) (all-passed _ _ _ (p .pre .0) (q .row) (q .inv .0) (c .loop-test .left))
+    ∙ ap (total _) (all-passed _ _ _ (c .before .before .before .pre .0) (q .row) (q .inv .0) (c .loop-test .left))
 
 pub busy-sum-spec : {M : Type 1} → statement M
 busy-sum-spec =

@@ -1,17 +1,18 @@
 -- `demand::lengths::outcome_within` meets its contract. The length loop's invariant: every length before this one is clear. The row loop's:
 -- the rows passed are looked at in this length. Each way out of the loops is one verdict.
 use borrow.Author.Needs.{needs}
-use mathlib.Core.Path.{_≡_, sym, _∙_, ap}
+use mathlib.Core.Path.{sym, _∙_, ap}
 use Prim.Native.Nat.{_+_, _-_, _≤_}
 use native.Mathlib.Nat.{le-trans}
 use native.Mathlib.Omega.{arith}
-use Rattle.model.specs.Demand.{demandOf, miss}
+use Rattle.model.specs.Demand.{miss}
+use Rattle.model.proofs.Sheet.{periods-positive}
 use Rattle.model.proofs.Demand.{verdict-fixed}
 use Rattle.rows.specs.Words.{sheetOf}
 use Rattle.verdict.specs.OneProcessor.{outcomeOf}
 use Rattle.verdict.specs.Inner.{lookOf}
-use Rattle.verdict.proofs.Looked.{Looked, Cleared, cleared-first, looked-none, looked-more, looked-over, cleared-next}
-use Rattle.verdict.proofs.Sound.{shorter-given, inside, all-passed, positive, row-given, demand-each}
+use Rattle.verdict.proofs.Looked.{Looked, Cleared, look-demand, cleared-first, looked-none, looked-more, looked-over, cleared-next}
+use Rattle.verdict.proofs.Sound.{shorter-given, inside, all-passed, row-given, demand-each}
 use Rattle.verdict.proofs.Last.{last-bounds, decided}
 use Rattle.demand.proofs.lengths.outcome_within.Statement.{statement}
 use Rattle.demand.proofs.lengths.outcome_within.Tie as tie
@@ -33,37 +34,21 @@ bounds : (c : tie.After-last-length Inv-loop μ-loop Inv-lengths μ-lengths)
     → (c .last-length .result ≤ c .before .before .args .horizon) × (c .last-length .result ≤ 16_777_216)
 bounds c =
     let p = c .before .before in
-    let upto : c .last-length .result ≤ p .args .horizon = rw (c .last-length .ensures) (last-bounds _ _ _ _ (p .pre) .1) in
-    (upto, le-trans upto (p .pre .given .within))
+    let upto : c .last-length .result ≤ p .args .horizon = rw (c .last-length .ensures) (last-bounds _ _ _ _ (p .pre .0) .1) in
+    (upto, le-trans upto (p .pre .0 .given .within))
 
 -- A length looked at is at most the horizon.
 short : (c : tie.Else1 Inv-loop μ-loop Inv-lengths μ-lengths)
     → c .before .lengths .length ≤ c .before .before .before .before .before .args .horizon
 short c = le-trans (c .if1 .left) (bounds (c .before .before .before) .0)
 
--- What a turn adds is the row's demand.
-part : (c : tie.After-look-at Inv-loop μ-loop Inv-lengths μ-lengths)
-    → let q = c .before .before in
-    let s = sheetOf (q .before .before .before .before .before .before .args .words .now) in
-    c .look-at .result .demand ≡ demandOf s (q .before .before .lengths .length) (q .loop .row)
-unfolding lookOf
-part c = rw (c .look-at .ensures)
-
--- Behind the row loop all rows are looked at.
-all-looked : (c : tie.After-loop Inv-loop μ-loop Inv-lengths μ-lengths)
-    → let q = c .before .before .before in
-    let s = sheetOf (q .before .before .before .before .args .words .now) in
-    Looked s (q .before .before .last-length .result) (q .lengths .length) (s .rows) (c .before .loop .sum) (c .before .loop .next)
-all-looked c =
-    let p = c .before .before .before .before .before .before .before in
-    let q = c .before .loop in
-    rw (all-passed _ _ _ (p .pre .given) (q .row) (q .inv .0) (c .loop-test .left)) at (q .inv .1)
-
 last-length-requires : tie.Need-last-length-requires Inv-loop μ-loop Inv-lengths μ-lengths
 last-length-requires c κs = search needs
 
 clear-up-to-requires : tie.Need-clear-up-to-requires Inv-loop μ-loop Inv-lengths μ-lengths
-clear-up-to-requires c κs = shorter-given _ _ _ (c .before .before .pre .given) _ (bounds c .0)
+clear-up-to-requires c κs =
+    let p = c .before .before in
+    (shorter-given _ _ _ (p .pre .0 .given) _ (bounds c .0), p .pre .1)
 
 add-length : tie.Need-add-length Inv-loop μ-loop Inv-lengths μ-lengths
 add-length c = let last = bounds (c .before) in omega (arith, c .clear-up-to .ensures .0)
@@ -83,7 +68,8 @@ loop-holds c = (omega arith, looked-none _ _ _ (c .if1 .left))
 look-at-requires : tie.Need-look-at-requires Inv-loop μ-loop Inv-lengths μ-lengths
 look-at-requires c κs =
     let q = c .before .before in
-    row-given _ _ _ (q .before .before .before .before .before .pre .given) _ _ (c .loop-test .taken) (short q)
+    let p = q .before .before .before .before .before in
+    (row-given _ _ _ (p .pre .0 .given) _ _ (c .loop-test .taken) (short q), p .pre .1)
 
 add-sum : tie.Need-add-sum Inv-loop μ-loop Inv-lengths μ-lengths
 add-sum c =
@@ -91,9 +77,9 @@ add-sum c =
     let p = q .before .before .before .before .before .before in
     let t = q .before .before .lengths .length in
     let looked : q .loop .sum ≤ t = q .loop .inv .1 .within in
-    let within : p .args .horizon ≤ 16_777_216 = p .pre .given .within in
+    let within : p .args .horizon ≤ 16_777_216 = p .pre .0 .given .within in
     let upto : t ≤ p .args .horizon = short (q .before) in
-    omega (arith, part (c .before), demand-each _ _ _ (p .pre .given) t (q .loop .row) (omega arith) upto)
+    omega (arith, look-demand _ _ _ (c .before .look-at .ensures), demand-each _ _ _ (p .pre .0 .given) t (q .loop .row) (omega arith) upto)
 
 lesser-requires : tie.Need-lesser-requires Inv-loop μ-loop Inv-lengths μ-lengths
 lesser-requires c κs = search needs
@@ -109,27 +95,34 @@ unfolding lookOf
 loop-again c =
     let look = c .before .before .before in
     let q = look .before .before in
-    let given = q .before .before .before .before .before .before .pre .given in (
+    let given = q .before .before .before .before .before .before .pre .0 .given in
+    let demand = look-demand _ _ _ (look .look-at .ensures) in (
       omega arith,
-      rw (part look, c .lesser .ensures, look .look-at .ensures)
+      rw (demand, c .lesser .ensures, look .look-at .ensures)
           (looked-more _ _ _ (q .loop .row) (q .loop .sum) (q .loop .next)
-          (positive _ _ _ given _ (inside _ _ _ given _ (omega arith))) (q .loop .inv .1)
-          (rw (part look) at (c .before .if2 .left))),
+          (periods-positive _ (given .sizes) _ (inside _ _ _ given _ (omega arith))) (q .loop .inv .1)
+          (rw demand at (c .before .if2 .left))),
     )
 
 lengths-less : tie.Need-lengths-less Inv-loop μ-loop Inv-lengths μ-lengths
-lengths-less c = let looked = all-looked c in let before = c .before .before .if1 .left in omega arith
+lengths-less c =
+    let looked = c .before .loop .inv .1 in
+    let before = c .before .before .if1 .left in
+    omega arith
 
 lengths-again : tie.Need-lengths-again Inv-loop μ-loop Inv-lengths μ-lengths
 lengths-again c =
     let q = c .before .before .before in
-    cleared-next _ (positive _ _ _ (q .before .before .before .before .pre .given)) _ _ _ _ (q .lengths .inv) (all-looked c)
+    let rows = c .before .loop in
+    let given = q .before .before .before .before .pre .0 .given in
+    cleared-next _ (periods-positive _ (given .sizes)) _ _ _ _ (q .lengths .inv)
+    (rw (all-passed _ _ _ given (rows .row) (rows .inv .0) (c .loop-test .left)) at (rows .inv .1))
 
 returns : tie.Need-returns Inv-loop μ-loop Inv-lengths μ-lengths
 returns c =
     let q = c .before .before in
     c .without-miss .ensures
-    ∙ decided _ _ _ _ (q .before .before .before .before .pre)
+    ∙ decided _ _ _ _ (q .before .before .before .before .pre .0)
     (λ u from upto. q .lengths .inv .lowest u from (omega (arith, q .before .before .last-length .ensures)))
 
 returns-2 : tie.Need-returns-2 Inv-loop μ-loop Inv-lengths μ-lengths
@@ -145,8 +138,8 @@ returns-2 c =
     (record {
       positive = cleared .positive;
       within = short (q .before);
-      over = looked-over _ _ _ _ _ _ (q .loop .inv .1) (inside _ _ _ (p .pre .given) (q .loop .row) (omega arith))
-          (rw (part look) at (c .if2 .taken));
+      over = looked-over _ _ _ _ _ _ (q .loop .inv .1) (inside _ _ _ (p .pre .0 .given) (q .loop .row) (omega arith))
+          (rw (look-demand _ _ _ (look .look-at .ensures)) at (c .if2 .taken));
       lowest = cleared .lowest;
     })))
 

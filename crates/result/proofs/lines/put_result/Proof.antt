@@ -6,8 +6,7 @@ use mathlib.Core.List.{List, _++_}
 use lib.ListN.{length, drop, length-drop}
 use lib.Seq.{length-take-le}
 use Rattle.laws.proofs.Fill.{front-kept, front-filled}
-use Rattle.report.specs.Lines.{resultHead, resultLine, resultLength, resultFirstLine}
-use Rattle.report.specs.Inner.{linesFrom}
+use Rattle.report.specs.Lines.{resultHead, resultLine, resultLength, resultFirstLine, resultBytes}
 use Rattle.report.proofs.Text.{line-length, rows-length}
 use native.Mathlib.Omega.{arith}
 use Rattle.result.proofs.lines.put_result.Statement.{statement}
@@ -65,7 +64,7 @@ same-length : tie.Need-same-length
 same-length c = search needs
 
 returns : tie.Need-returns
-unfolding resultLength resultHead linesFrom resultFirstLine
+unfolding resultLength resultHead resultBytes resultFirstLine
 returns c =
     let f = c .before .before .before .before .before .before in
     let s = start f in

@@ -6,8 +6,7 @@ use mathlib.Core.List.{_++_}
 use lib.ListN.{length, drop, length-drop}
 use lib.Seq.{length-take-le}
 use Rattle.laws.specs.Fill.{joined}
-use Rattle.report.specs.Lines.{resultLine, resultRowLine}
-use Rattle.report.specs.Inner.{lineFrom}
+use Rattle.report.specs.Lines.{resultLine, resultRowLine, resultLineOf}
 use Rattle.report.proofs.Text.{row-line-length, rows-length}
 use native.Mathlib.Omega.{arith}
 use Rattle.laws.proofs.Fill.{block-joined, blocks-kept, blocks-fill}
@@ -15,7 +14,7 @@ use Rattle.result.proofs.lines.put_rows.Statement.{statement}
 use Rattle.result.proofs.lines.put_rows.Tie as tie
 
 abbrev Inv-loop : tie.InvT-loop
-Inv-loop marks bounds rows out₀ row₀ out row = (row ≤ rows) × (out ≡ joined (lineFrom marks bounds) row ++ drop (resultLine * row) out₀)
+Inv-loop marks bounds rows out₀ row₀ out row = (row ≤ rows) × (out ≡ joined (resultLineOf marks bounds) row ++ drop (resultLine * row) out₀)
 
 abbrev μ-loop : tie.MeasureT-loop
 μ-loop marks bounds rows out₀ row₀ out row = rows - row
@@ -27,7 +26,7 @@ kept : (c : tie.At-loop Inv-loop μ-loop) → length (c .loop .out) ≡ length (
 unfolding resultLine
 kept c =
     let a = start c .args in
-    blocks-kept (lineFrom (a .marks) (a .bounds .now)) (c .loop .row) (resultLine * c .loop .row) (c .loop .out) (a .out .now)
+    blocks-kept (resultLineOf (a .marks) (a .bounds .now)) (c .loop .row) (resultLine * c .loop .row) (c .loop .out) (a .out .now)
     (rows-length (a .marks) (a .bounds .now) (c .loop .row)) (omega (arith, start c .pre .2)) (c .loop .inv .1)
 
 room : (c : tie.In-loop Inv-loop μ-loop) → resultLine * c .before .loop .row + resultLine ≤ length (c .before .loop .out)
@@ -84,15 +83,15 @@ loop-less : tie.Need-loop-less Inv-loop μ-loop
 loop-less c = omega arith
 
 loop-again : tie.Need-loop-again Inv-loop μ-loop
-unfolding resultLine lineFrom resultRowLine
+unfolding resultLine resultLineOf resultRowLine
 loop-again c =
     let q = c .before .before .before .before .before .before .before in
     let a = start q .args in
     let row = q .loop .row in
-    let put : c .before .before .put-line .last .0 ≡ lineFrom (a .marks) (a .bounds .now) row =
+    let put : c .before .before .put-line .last .0 ≡ resultLineOf (a .marks) (a .bounds .now) row =
     rw (c .before .before .before .before .mark-of .ensures) at (c .before .before .put-line .ensures) in (
       omega arith,
-      block-joined (lineFrom (a .marks) (a .bounds .now)) row (resultLine * row) resultLine (resultLine * row + resultLine) (resultLine * (row + 1)) _ (q .loop .out) (a .out .now)
+      block-joined (resultLineOf (a .marks) (a .bounds .now)) row (resultLine * row) resultLine (resultLine * row + resultLine) (resultLine * (row + 1)) _ (q .loop .out) (a .out .now)
           (rows-length (a .marks) (a .bounds .now) row) (row-line-length (a .marks) (a .bounds .now) row) refl (omega arith) put (q .loop .inv .1),
     )
 
@@ -104,7 +103,7 @@ returns c =
     let s = start (c .before) in
     let q = c .before .loop in
     let all : q .row ≡ s .args .rows = omega arith in
-    blocks-fill (lineFrom (s .args .marks) (s .args .bounds .now)) (s .args .rows) (resultLine * s .args .rows) (q .out) (s .args .out .now) (s .pre .2)
+    blocks-fill (resultLineOf (s .args .marks) (s .args .bounds .now)) (s .args .rows) (resultLine * s .args .rows) (q .out) (s .args .out .now) (s .pre .2)
     (rw all at (q .inv .1))
 
 pub put-rows-spec : {M : Type 1} → statement M

@@ -1,6 +1,5 @@
--- 4, then 7: the definition, with each check by its own contract.
-use mathlib.Core.Path.{_∙_, ap₂}
-use Rattle.rows.specs.Checks.{firstOf}
+-- 4, then 7: the fold of the two, with each check by its own contract.
+use Rattle.rows.proofs.Checks.{held-last, held-more}
 use Rattle.grammar.specs.Sheets.{betweenRefusal}
 use Rattle.sheet.proofs.checks.between_refusal.Statement.{statement}
 use Rattle.sheet.proofs.checks.between_refusal.Tie as tie
@@ -16,7 +15,7 @@ first-of-requires c κs = tt
 
 returns : tie.Need-returns
 unfolding betweenRefusal
-returns c = c .first-of .ensures ∙ ap₂ firstOf (c .before .before .processors-refusal .ensures) (c .before .room-refusal .ensures)
+returns c = held-more _ _ (c .before .before .processors-refusal .ensures) (held-last _ (c .before .room-refusal .ensures)) (c .first-of .ensures)
 
 pub between-refusal-spec : {M : Type 1} → statement M
 between-refusal-spec = tie.close (tie.spec processors-refusal-requires room-refusal-requires first-of-requires returns)

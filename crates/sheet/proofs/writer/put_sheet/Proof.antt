@@ -8,8 +8,7 @@ use lib.ListN.{length, drop, length-drop}
 use lib.Seq.{length-take-le}
 use Rattle.laws.specs.Fill.{joined}
 use Rattle.laws.proofs.Fill.{front-kept}
-use Rattle.rows.specs.Words.{rowCount, sheetOf}
-use Rattle.rows.proofs.Words.{sheet-rows}
+use Rattle.rows.specs.Words.{sheetOf}
 use Rattle.grammar.specs.Grammar.{head, line, sheetLength}
 use Rattle.grammar.specs.Lines.{firstLine, lineOf}
 use Rattle.grammar.proofs.Lines.{first-line-length, sheet-put}
@@ -51,7 +50,7 @@ first-line : (c : tie.After-put-first-line)
     → c .put-first-line .last .0 ≡ firstLine (start c .args .processors) ((sheetOf (start c .args .words .now)) .rows)
 first-line c =
     c .put-first-line .ensures
-    ∙ ap (firstLine (start c .args .processors)) (c .before .before .row-count .ensures ∙ sym (sheet-rows (start c .args .words .now)))
+    ∙ ap (firstLine (start c .args .processors)) (c .before .before .row-count .ensures)
 
 -- With line one in front the output has the length that it came with: that of the sheet.
 kept : (c : tie.After-put-first-line) → length (c .put-first-line .last .0 ++ drop head (start c .args .out .now)) ≡ length (start c .args .out .now)
@@ -74,8 +73,8 @@ unfolding sheetLength head
 put-rows-requires c κs =
     let f = c .before .before .before in
     let whole = f .put-first-line .last .0 ++ drop head (start f .args .out .now) in
-    let full : length whole ≡ head + line * rowCount (start f .args .words .now) = kept f ∙ start f .pre .1 in
-    let rest : length whole - head ≡ line * rowCount (start f .args .words .now) = omega arith in
+    let full : length whole ≡ head + line * (sheetOf (start f .args .words .now)) .rows = kept f ∙ start f .pre .1 in
+    let rest : length whole - head ≡ line * (sheetOf (start f .args .words .now)) .rows = omega arith in
     length-take-le (length whole - head) (drop head whole) (rw (length-drop head whole) (omega arith))
     ∙ rest
     ∙ ap (λ (n : ℕ). line * n) (sym (f .before .before .row-count .ensures))
@@ -88,10 +87,9 @@ unfolding head
 returns c =
     let f = c .before .before .before .before .before .before in
     let s = sheetOf (start f .args .words .now) in
-    let rows = sheet-rows (start f .args .words .now) in
     sheet-put s (start f .args .processors) (f .put-first-line .last .0) _ (start f .args .out .now)
-    (start f .pre .1 ∙ ap sheetLength (sym rows)) (first-line f)
-    (c .before .before .put-rows .ensures ∙ ap (joined (lineOf s)) (f .before .before .row-count .ensures ∙ sym rows))
+    (start f .pre .1) (first-line f)
+    (c .before .before .put-rows .ensures ∙ ap (joined (lineOf s)) (f .before .before .row-count .ensures))
 
 pub put-sheet-spec : {M : Type 1} → statement M
 put-sheet-spec =

@@ -4,12 +4,11 @@ use mathlib.Core.Path.{_≡_, refl, sym, _∙_, ap}
 use mathlib.Core.Bool.{true}
 use Prim.Native.Nat.{_-_, _≤_}
 use borrow.Author.Tests.{eq-eqb, ne-eqb}
-use Rattle.laws.specs.Bits.{bit, every}
+use Rattle.laws.specs.Bits.{bit, isSet, every}
 use Rattle.laws.proofs.Bits.{every-more, every-fails}
-use Rattle.report.specs.Inner.{isSet}
 use native.Mathlib.Omega.{arith}
-use Rattle.result.proofs.lines.all_marked.Statement.{statement}
-use Rattle.result.proofs.lines.all_marked.Tie as tie
+use Rattle.marks.proofs.all_marked.Statement.{statement}
+use Rattle.marks.proofs.all_marked.Tie as tie
 
 abbrev Inv-loop : tie.InvT-loop
 Inv-loop marks rows row₀ row = (row ≤ rows) × (every (isSet marks) row ≡ true)
