@@ -22,7 +22,7 @@ use Rattle.model.specs.Sheet.{Sheet}
 use Rattle.model.specs.Interference.{share, work, shareOf, workOf, others, bclTerm, bclValue, rtaTerm, rtaRight}
 use Rattle.model.specs.Answer.{Method, BCL, RTA, bclAnswer, rtaAnswer, answer, Answers}
 use Rattle.model.specs.Refine.{Ask, turn, rounds, atOnce, marked, accepted, Supported}
-use Rattle.model.specs.Alike.{LiesIn}
+use Rattle.model.specs.Alike.{LiesIn, Eased}
 use Rattle.model.proofs.Interference.{share-mono, work-mono}
 use Rattle.model.proofs.Answer.{answer-means, rta-below}
 use Rattle.model.proofs.Refine.{Regular}
@@ -102,14 +102,6 @@ pub answer-along : (method : Method) (m : ℕ) (s t : Sheet) (e : ℕ → ℕ) �
     → UnderAlong e (s .rows) Q R → Better (answer method s m k Q) (answer method t m (e k) R)
 answer-along method m s t e lies k here Q R under =
     answer-eases s m k Q t m (e k) R (lies-eases s t e lies k here Q R under m) method
-
--- Each row of a sheet has it easier, under the bounds Q, than the row where it lies has under R: no larger bound, a better answer, and no
--- mark and no acceptance is lost.
-pub record Eased (s t : Sheet) (e : ℕ → ℕ) (ask ask′ : Ask) (Q R : List ℕ) : Type 0 where
-  pub bounds : UnderAlong e (s .rows) Q R
-  pub answers : (k : ℕ) → k < s .rows → Better (ask k Q) (ask′ (e k) R)
-  pub keeps-marks : (k : ℕ) → k < s .rows → marked ask′ R (e k) ≡ true → marked ask Q k ≡ true
-  pub keeps-accepted : accepted t ask′ R ≡ true → accepted s ask Q ≡ true
 
 -- The bounds of a sheet put where its rows lie in another, and 0 elsewhere.
 abbrev placed : Sheet → Sheet → (ℕ → ℕ) → List ℕ → List ℕ

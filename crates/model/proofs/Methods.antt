@@ -10,12 +10,12 @@ use Rattle.laws.proofs.Choice.{better-where}
 use Rattle.model.specs.Sheet.{Sheet}
 use Rattle.model.specs.Answer.{Method, BCL, RTA, bclAnswer, rtaAnswer, answer, Answers}
 use Rattle.model.specs.Refine.{rounds, atOnce, SameEnd, Dominates}
-use Rattle.model.specs.Alike.{LiesIn}
+use Rattle.model.specs.Alike.{LiesIn, Eased}
 use Rattle.model.proofs.Interference.{bclValue-mono, rtaRight-mono, rta-within-bcl}
 use Rattle.model.proofs.Answer.{answer-means, answer-within, rta-below}
 use Rattle.model.proofs.Refine.{Regular}
 use Rattle.model.proofs.Engines.{same-end, dominates}
-use Rattle.model.proofs.Along.{answer-eases, answer-along, Eased, eased, eased-once}
+use Rattle.model.proofs.Along.{answer-eases, answer-along, eased, eased-once}
 
 -- Smaller bounds give a better answer, by either method.
 pub answer-mono : (method : Method) (s : Sheet) (m k : ℕ) (Q R : List ℕ) → Below (s .rows) Q R

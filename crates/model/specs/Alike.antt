@@ -1,11 +1,13 @@
 -- Sheets compared row by row: one that lies in another, and two that say the same.
 use mathlib.Core.Path.{_≡_}
+use mathlib.Core.Bool.{true}
 use mathlib.Core.List.{List}
 use Prim.Native.Nat.{ℕ, _<_}
-use Rattle.laws.specs.Along.{Injects}
+use Rattle.laws.specs.Choice.{Better}
+use Rattle.laws.specs.Along.{Injects, UnderAlong}
 use Rattle.model.specs.Sheet.{Sheet}
 use Rattle.model.specs.Answer.{Method, answer}
-use Rattle.model.specs.Refine.{rounds, atOnce, marked, marks, accepted}
+use Rattle.model.specs.Refine.{Ask, rounds, atOnce, marked, marks, accepted}
 
 -- One sheet lies in another: its row k is the other's row e k, and no two of its rows are one row there.
 pub record LiesIn (s t : Sheet) (e : ℕ → ℕ) : Type 0 where
@@ -13,6 +15,14 @@ pub record LiesIn (s t : Sheet) (e : ℕ → ℕ) : Type 0 where
   pub cost : (k : ℕ) → k < s .rows → s .cost k ≡ t .cost (e k)
   pub deadline : (k : ℕ) → k < s .rows → s .deadline k ≡ t .deadline (e k)
   pub period : (k : ℕ) → k < s .rows → s .period k ≡ t .period (e k)
+
+-- Each row of a sheet has it easier, under the bounds Q, than the row where it lies has under R: no larger bound, a better answer, and no
+-- mark and no acceptance is lost.
+pub record Eased (s t : Sheet) (e : ℕ → ℕ) (ask ask′ : Ask) (Q R : List ℕ) : Type 0 where
+  pub bounds : UnderAlong e (s .rows) Q R
+  pub answers : (k : ℕ) → k < s .rows → Better (ask k Q) (ask′ (e k) R)
+  pub keeps-marks : (k : ℕ) → k < s .rows → marked ask′ R (e k) ≡ true → marked ask Q k ≡ true
+  pub keeps-accepted : accepted t ask′ R ≡ true → accepted s ask Q ≡ true
 
 -- Two sheets are alike: as many rows, and at each place below that count the same three numbers.
 pub record Alike (s t : Sheet) : Type 0 where
