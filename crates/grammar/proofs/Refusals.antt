@@ -13,7 +13,8 @@ use Rattle.rows.specs.declared.Refusal.{Refusal}
 use Rattle.model.specs.Sheet.{Sheet, triples}
 use Rattle.rows.specs.Words.{sheetOf}
 use Rattle.rows.specs.Checks.{refused, notRefused, processorsRefusal, roomRefusal, laidRefusal, wordsRefusal}
-use Rattle.rows.proofs.Checks.{laid-words, accepted, accepted-passes, none-held, held-none, count-refused, processors-allowed, allowed-processors, room-enough, enough-room}
+use Rattle.rows.proofs.Fold.{none-held, held-none}
+use Rattle.rows.proofs.Checks.{laid-words, accepted, accepted-passes, count-refused, processors-allowed, allowed-processors, room-enough, enough-room}
 use Rattle.grammar.specs.declared.Read.{Read}
 use Rattle.grammar.specs.Grammar.{processorsWritten, rowsWritten, firstWrong}
 use Rattle.grammar.specs.Lines.{wordWritten, wordsWritten}

@@ -25,6 +25,7 @@ use Rattle.rows.specs.declared.Refusal.{Refusal}
 use Rattle.rows.specs.Words.{foundOf}
 use Rattle.rows.specs.Checks.{refused, notRefused, processorsRefusal, methodRefusal, firstHeld, laidRefusal}
 use Rattle.rows.specs.Inner.{NoneHold}
+use Rattle.rows.proofs.Fold.{none-held, held-none}
 use Rattle.rows.proofs.Checks as checks
 use Rattle.refinement.specs.declared.OneRow.{OneRow}
 use Rattle.refinement.specs.Question.{boundAllowed, questionAllowed, questionRefusal, oneRowRefusalOf, oneRowOf, answerOf, OneRowPromise, Ready, Posed, Askable}
@@ -34,7 +35,7 @@ pub posed : (broken : Bool) (s : Sheet) (m method : ℕ) (later : List ℕ)
     → (laidRefusal broken s (firstHeld (processorsRefusal m ∷ methodRefusal method ∷ later))) .number ≡ 0 → Posed broken s m method × NoneHold later
 posed broken s m method later zero =
     let facts = checks.accepted broken s _ zero in
-    let own = checks.none-held (processorsRefusal m ∷ methodRefusal method ∷ later) (facts .none-held) in
+    let own = none-held (processorsRefusal m ∷ methodRefusal method ∷ later) (facts .none-held) in
     let allowed = allowed-processors m (checks.processors-allowed m (own .0)) in (
       record {
         laid = facts .laid;
@@ -54,7 +55,7 @@ posed-passes broken s m method later facts passed =
     (record {
       laid = facts .laid;
       sizes = facts .sizes;
-      none-held = checks.held-none (processorsRefusal m ∷ methodRefusal method ∷ later)
+      none-held = held-none (processorsRefusal m ∷ methodRefusal method ∷ later)
           (checks.allowed-processors m (processors-allowed m (facts .some-processor) (facts .few)), (checks.within-method method (facts .by-method), passed));
     })
 

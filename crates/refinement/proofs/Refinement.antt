@@ -15,7 +15,8 @@ use Rattle.model.proofs.Engines.{rounds-largest, at-once-largest}
 use Rattle.model.proofs.Sheet.{row-sized}
 use Rattle.rows.specs.declared.Refusal.{Refusal}
 use Rattle.rows.specs.Checks.{processorsRefusal, methodRefusal, roomRefusal, firstOf, laidRefusal, notRefused}
-use Rattle.rows.proofs.Checks as checks
+use Rattle.rows.proofs.Fold.{held-last, held-more}
+use Rattle.rows.proofs.Checks.{room-enough, enough-room}
 use Rattle.refinement.specs.declared.Refined.{Refined}
 use Rattle.refinement.specs.Refinement.{askOf, refineRefusalOf, Engine, finalBounds, finalMarks, handed, refinedOf, refinedSpaceOf, Refinable}
 use Rattle.refinement.specs.Inner.{Running}
@@ -52,12 +53,12 @@ module _ (broken : Bool) (s : Sheet) (m method room need : ℕ) where
   unfolding refineRefusalOf
   refining zero =
       let facts = posed broken s m method (roomRefusal room need ∷ []) zero in
-      record { posed = facts .0; enough = checks.room-enough room need (facts .1 .0) }
+      record { posed = facts .0; enough = room-enough room need (facts .1 .0) }
 
   -- And where they hold there is no refusal.
   pub refinable : Refinable broken s m method room need → refineRefusalOf broken s m method room need ≡ notRefused
   unfolding refineRefusalOf
-  refinable facts = posed-passes broken s m method (roomRefusal room need ∷ []) (facts .posed) (checks.enough-room room need (facts .enough), tt)
+  refinable facts = posed-passes broken s m method (roomRefusal room need ∷ []) (facts .posed) (enough-room room need (facts .enough), tt)
 
   -- The refusal, from what each call of the code gave: the checks are folded from the last one up.
   pub refusal-made : {five given seven rest four whole : ℕ} {r : Refusal} → five ≡ methodRefusal method → given ≡ need
@@ -65,10 +66,10 @@ module _ (broken : Bool) (s : Sheet) (m method room need : ℕ) where
       → r ≡ laidRefusal broken s whole → r ≡ refineRefusalOf broken s m method room need
   unfolding refineRefusalOf
   refusal-made {five} {given} {seven} {rest} {four} {whole} {r} is-five is-need is-seven is-rest is-four is-whole is-refusal =
-      let last = checks.held-last (roomRefusal room need) (is-seven ∙ ap (roomRefusal room) is-need) in
-      let later = checks.held-more (methodRefusal method) (roomRefusal room need ∷ []) is-five last is-rest in
+      let last = held-last (roomRefusal room need) (is-seven ∙ ap (roomRefusal room) is-need) in
+      let later = held-more (methodRefusal method) (roomRefusal room need ∷ []) is-five last is-rest in
       is-refusal
-      ∙ ap (laidRefusal broken s) (checks.held-more (processorsRefusal m) (methodRefusal method ∷ roomRefusal room need ∷ []) is-four later is-whole)
+      ∙ ap (laidRefusal broken s) (held-more (processorsRefusal m) (methodRefusal method ∷ roomRefusal room need ∷ []) is-four later is-whole)
 
 -- Today the final bounds themselves are handed out.
 pub handed-whole : (engine : Engine) (s : Sheet) (m method : ℕ) → finalBounds engine s m method ≡ handed engine s m method

@@ -14,6 +14,7 @@ use Rattle.model.specs.Sheet.{Sheet, Allowed}
 use Rattle.model.proofs.Sheet.{few-rows}
 use Rattle.rows.specs.declared.Refusal.{Refusal}
 use Rattle.rows.specs.Checks.{refused, processorsRefusal, methodRefusal, roomRefusal}
+use Rattle.rows.proofs.Fold.{others-pass, held-last}
 use Rattle.rows.proofs.Checks as checks
 use Rattle.refinement.specs.declared.Refined.{Refined}
 use Rattle.refinement.specs.Refinement.{refineRefusalOf, finalMarks, handed, refinedOf, refinedSpaceOf}
@@ -45,9 +46,9 @@ module _ (broken : Bool) (s : Sheet) (m method room : ℕ) where
   room-decides laid sizes four five =
       checks.own-decides broken s _ laid sizes
       ∙ ap (λ (n : ℕ). refused n 0)
-      (checks.others-pass (processorsRefusal m) _ four
-      ∙ checks.others-pass (methodRefusal method) _ five
-      ∙ sym (checks.held-last (roomRefusal room (resultLength (s .rows))) refl))
+      (others-pass (processorsRefusal m) _ four
+      ∙ others-pass (methodRefusal method) _ five
+      ∙ sym (held-last (roomRefusal room (resultLength (s .rows))) refl))
 
   -- Writing is not refused exactly where everything asked for holds.
   pub result-not-refused : ((writeResultOf (refineRefusalOf broken s m method room (resultLength (s .rows))) s) .refusal ≡ 0)

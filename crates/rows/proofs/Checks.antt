@@ -1,7 +1,7 @@
 -- The checks in number order, taken apart: a refusal with number 0 failed every test, and where every test fails there is none.
 use mathlib.Core.Path.{_≡_, refl, sym, _∙_, ap}
 use mathlib.Core.Bool.{Bool, true, false, not}
-use mathlib.Core.List.{List, [], _∷_}
+use mathlib.Core.List.{List}
 use mathlib.Core.Option.{Option, none, some}
 use Prim.Native.Nat.{ℕ, _%_, _≤_, _<_}
 use native.Mathlib.Omega.{arith}
@@ -14,11 +14,12 @@ use Rattle.laws.specs.Search.{Nothing}
 use Rattle.laws.proofs.Choice.{pick-yes, pick-no, not-refused, is-refused}
 use Rattle.laws.proofs.Search.{least-means, least-fixed}
 use Rattle.model.specs.Sheet.{Sheet, triples, rowAllowedAt, processorsAllowed, Allowed}
-use Rattle.model.proofs.Sheet.{count-allowed, allowed-count}
+use Rattle.model.proofs.Sheet.{count-allowed, some-rows, few-rows}
 use Rattle.rows.specs.declared.Refusal.{Refusal}
 use Rattle.rows.specs.Words.{sheetOf, outside, firstOutside}
-use Rattle.rows.specs.Checks.{refused, notRefused, countRefusal, processorsRefusal, methodRefusal, roomRefusal, firstOf, firstHeld, rowsRefusal, sheetRefusal, laidRefusal, notWhole, wordsRefusal, Accepted}
-use Rattle.rows.specs.Inner.{shapeRefusal, Laid, NoneHold}
+use Rattle.rows.specs.Checks.{refused, notRefused, countRefusal, processorsRefusal, methodRefusal, roomRefusal, firstOf, rowsRefusal, sheetRefusal, laidRefusal, notWhole, wordsRefusal, Accepted}
+use Rattle.rows.specs.Inner.{shapeRefusal, Laid}
+use Rattle.rows.proofs.Fold.{first-of-zero, next-decides}
 
 -- A list without a word left over is three words for each row of its sheet, and the other way round.
 pub words-laid : (words : List ℕ) → notWhole words ≡ false → Laid words
@@ -40,12 +41,12 @@ count-within n zero = split (eqb n 0) refl (ltb 64 n) refl zero
     split true is-empty many is-many zero = absurd (omega arith)
     split false not-empty true is-many zero = absurd (omega arith)
     split false not-empty false not-many zero =
-        let some-rows : n ≡ 0 → ⊥ = eqb-false n 0 not-empty in
+        let not-none : n ≡ 0 → ⊥ = eqb-false n 0 not-empty in
         (omega arith, ltb-false 64 n not-many)
 
 pub within-count : (n : ℕ) → 1 ≤ n → n ≤ 64 → countRefusal n ≡ 0
 unfolding countRefusal
-within-count n some-rows few = pick-no _ _ _ (ne-eqb n 0 (λ none-there. omega arith)) ∙ pick-no _ _ _ (le-ltb 64 n few)
+within-count n from-one few = pick-no _ _ _ (ne-eqb n 0 (λ none-there. omega arith)) ∙ pick-no _ _ _ (le-ltb 64 n few)
 
 -- Where no row is found outside, each row has its sizes.
 pub none-outside : (s : Sheet) → firstOutside s ≡ none → (k : ℕ) → k < s .rows → rowAllowedAt s k ≡ true
@@ -59,58 +60,11 @@ pub each-inside : (s : Sheet) → ((k : ℕ) → k < s .rows → rowAllowedAt s 
 unfolding firstOutside outside
 each-inside s each = least-fixed (outside s) 0 (s .rows) none (λ k from here. ap not (each k (omega arith)))
 
--- The first of two checks is 0 only where both are.
-pub first-of-zero : (first second : ℕ) → firstOf first second ≡ 0 → (first ≡ 0) × (second ≡ 0)
-unfolding firstOf
-first-of-zero first second zero = split (eqb first 0) refl zero
-  where
-    split : (b : Bool) → eqb first 0 ≡ b → pick b second first ≡ 0 → (first ≡ 0) × (second ≡ 0)
-    split true is-zero zero = (eqb-true first 0 is-zero, zero)
-    split false not-zero zero = absurd (eqb-false first 0 not-zero zero)
-
--- A check that does not hold leaves it to the next.
-pub next-decides : (first second : ℕ) → first ≡ 0 → firstOf first second ≡ second
-unfolding firstOf
-next-decides first second zero = pick-yes _ _ _ (eq-eqb first 0 zero)
-
--- The first of several is 0 exactly where none holds.
-pub none-held : (checks : List ℕ) → firstHeld checks ≡ 0 → NoneHold checks
-unfolding firstHeld
-none-held [] zero = tt
-none-held (check ∷ later) zero =
-    let both = first-of-zero check (firstHeld later) zero in
-    (both .0, none-held later (both .1))
-
-pub held-none : (checks : List ℕ) → NoneHold checks → firstHeld checks ≡ 0
-unfolding firstHeld
-held-none [] none-hold = refl
-held-none (check ∷ later) none-hold = next-decides check (firstHeld later) (none-hold .0) ∙ held-none later (none-hold .1)
-
--- A first check that does not hold leaves it to the others.
-pub others-pass : (check : ℕ) (later : List ℕ) → check ≡ 0 → firstHeld (check ∷ later) ≡ firstHeld later
-unfolding firstHeld
-others-pass check later zero = next-decides check (firstHeld later) zero
-
--- The fold as code makes it, from the last check up: the last by itself, then each before those that are folded already.
-pub held-last : (check : ℕ) {given : ℕ} → given ≡ check → given ≡ firstHeld (check ∷ [])
-unfolding firstHeld firstOf
-held-last check {given} is-check = is-check ∙ split (eqb check 0) refl
-  where
-    split : (b : Bool) → eqb check 0 ≡ b → check ≡ pick b 0 check
-    split true is-zero = eqb-true check 0 is-zero
-    split false not-zero = refl
-
-pub held-more : (check : ℕ) (later : List ℕ) {given rest whole : ℕ} → given ≡ check → rest ≡ firstHeld later → whole ≡ firstOf given rest
-    → whole ≡ firstHeld (check ∷ later)
-unfolding firstHeld
-held-more check later {given} {rest} {whole} is-check is-rest is-whole = rw (is-check, is-rest) at is-whole
-
 -- Where the row count and the entry's own checks pass, the rows decide.
 rows-decide : (s : Sheet) (own : ℕ) → Allowed s → own ≡ 0 → sheetRefusal s own ≡ rowsRefusal (firstOutside s)
 unfolding sheetRefusal
 rows-decide s own sizes none-held =
-    let count = allowed-count (s .rows) (sizes .count) in
-    not-refused _ _ _ (next-decides _ own (within-count (s .rows) (count .0) (count .1)) ∙ none-held)
+    not-refused _ _ _ (next-decides _ own (within-count (s .rows) (some-rows s sizes) (few-rows s sizes)) ∙ none-held)
 
 -- Over a sheet number 0 says that its sizes are allowed and that none of the entry's own checks held.
 sheet-accepted : (s : Sheet) (own : ℕ) → (sheetRefusal s own) .number ≡ 0 → Allowed s × (own ≡ 0)
@@ -160,8 +114,7 @@ own-decides broken s own laid sizes = decided (ℕ-discrete own 0)
         accepted-passes broken s own (record { laid = laid; sizes = sizes; none-held = zero })
         ∙ ap (λ (n : ℕ). refused n 0) (sym zero)
     decided (no one-holds) =
-        let count = allowed-count (s .rows) (sizes .count) in
-        let number = next-decides (countRefusal (s .rows)) own (within-count (s .rows) (count .0) (count .1)) in
+        let number = next-decides (countRefusal (s .rows)) own (within-count (s .rows) (some-rows s sizes) (few-rows s sizes)) in
         pick-no _ _ _ laid
         ∙ is-refused _ _ _ (λ zero. one-holds (sym number ∙ zero))
         ∙ ap (λ (n : ℕ). refused n 0) number
@@ -196,6 +149,11 @@ pub allowed-by-zero : (allowed : Bool) (number : ℕ) → (number ≡ 0 → ⊥)
 allowed-by-zero true number numbered zero = refl
 allowed-by-zero false number numbered zero = absurd (numbered zero)
 
+-- And a check that gives 0 and not its number does not hold.
+not-held : (holds : Bool) (number : ℕ) → (number ≡ 0 → ⊥) → pick holds number 0 ≡ 0 → holds ≡ false
+not-held true number numbered zero = absurd (numbered zero)
+not-held false number numbered zero = refl
+
 -- The processors are not refused exactly if they are allowed.
 pub processors-allowed : (m : ℕ) → processorsRefusal m ≡ 0 → processorsAllowed m ≡ true
 unfolding processorsRefusal
@@ -208,11 +166,7 @@ allowed-processors m allowed = pick-yes _ _ _ allowed
 -- The space is not refused exactly if the answer fits.
 pub room-enough : (room need : ℕ) → roomRefusal room need ≡ 0 → need ≤ room
 unfolding roomRefusal
-room-enough room need zero = split (ltb room need) refl zero
-  where
-    split : (b : Bool) → ltb room need ≡ b → _≡_ {A = ℕ} (pick b 7 0) 0 → need ≤ room
-    split true short zero = absurd (omega arith)
-    split false enough zero = ltb-false room need enough
+room-enough room need zero = ltb-false room need (not-held (ltb room need) 7 (λ seven. omega arith) zero)
 
 pub enough-room : (room need : ℕ) → need ≤ room → roomRefusal room need ≡ 0
 unfolding roomRefusal
@@ -221,11 +175,7 @@ enough-room room need enough = pick-no _ _ _ (le-ltb room need enough)
 -- The method is not refused exactly if it is 0 or 1.
 pub method-within : (method : ℕ) → methodRefusal method ≡ 0 → method ≤ 1
 unfolding methodRefusal
-method-within method zero = split (ltb 1 method) refl zero
-  where
-    split : (b : Bool) → ltb 1 method ≡ b → _≡_ {A = ℕ} (pick b 5 0) 0 → method ≤ 1
-    split true above zero = absurd (omega arith)
-    split false within zero = ltb-false 1 method within
+method-within method zero = ltb-false 1 method (not-held (ltb 1 method) 5 (λ five. omega arith) zero)
 
 pub within-method : (method : ℕ) → method ≤ 1 → methodRefusal method ≡ 0
 unfolding methodRefusal

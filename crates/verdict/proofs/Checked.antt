@@ -7,7 +7,8 @@ use Rattle.laws.proofs.Choice.{pick-yes}
 use Rattle.model.specs.Sheet.{Sheet, horizonAllowed}
 use Rattle.model.proofs.Sheet.{allowed-horizon, horizon-allowed}
 use Rattle.rows.specs.Checks.{notRefused}
-use Rattle.rows.proofs.Checks.{none-held, held-none, allowed-by-zero, accepted, accepted-passes}
+use Rattle.rows.proofs.Fold.{none-held, held-none}
+use Rattle.rows.proofs.Checks.{allowed-by-zero, accepted, accepted-passes}
 use Rattle.verdict.specs.OneProcessor.{horizonRefusal, oneProcessorRefusalOf, Testable}
 
 -- Number 0 gives every fact.

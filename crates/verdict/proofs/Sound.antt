@@ -7,7 +7,7 @@ use Rattle.laws.specs.Sum.{total}
 use Rattle.laws.proofs.Sum.{total-within}
 use Rattle.model.specs.Sheet.{Sheet}
 use Rattle.model.specs.Demand.{demandOf, busyOf, busy}
-use Rattle.model.proofs.Sheet.{SizedRow, row-sized, allowed-count}
+use Rattle.model.proofs.Sheet.{SizedRow, row-sized, some-rows, few-rows}
 use Rattle.verdict.specs.Inner.{Given, RowGiven, GroupGiven, jobsWithin}
 use Rattle.verdict.proofs.Row.{sized-fits, look-small}
 use Rattle.verdict.proofs.Busy.{busy-rises, ceiling-from-one, busy-small}
@@ -87,7 +87,7 @@ module _ (s : Sheet) (count length : ℕ) (given : Given s count length) where
   pub busy-sum-small : (row : ℕ) → row < count
       → total (busyOf s length) row + busyOf s length row ≤ 1_137_741_824
   busy-sum-small row here =
-      let most : s .rows ≤ 64 = allowed-count (s .rows) (given .sizes .count) .1 in
+      let most = few-rows s (given .sizes) in
       omega (
         arith,
         given .counted,
@@ -101,6 +101,6 @@ module _ (s : Sheet) (count length : ℕ) (given : Given s count length) where
   -- Length 1 is not above its busy sum: there is a row.
   pub busy-from-one : 1 ≤ busy s 1
   busy-from-one =
-      let some-rows : 0 < count = omega (arith, given .counted, allowed-count (s .rows) (given .sizes .count) .0) in
-      let first = row-sized s (given .sizes) 0 (inside 0 some-rows) in
-      busy-rises s 0 (inside 0 some-rows) (first .positive) (omega arith)
+      let first-there : 0 < count = omega (arith, given .counted, some-rows s (given .sizes)) in
+      let first = row-sized s (given .sizes) 0 (inside 0 first-there) in
+      busy-rises s 0 (inside 0 first-there) (first .positive) (omega arith)

@@ -7,7 +7,7 @@ use native.Mathlib.Omega.{arith}
 use Rattle.laws.specs.Sum.{total}
 use Rattle.laws.proofs.Sum.{total-step}
 use Rattle.model.specs.Demand.{demandOf}
-use Rattle.model.proofs.Sheet.{allowed-count}
+use Rattle.model.proofs.Sheet.{few-rows}
 use Rattle.rows.specs.Words.{sheetOf}
 use Rattle.verdict.proofs.Looked.{look-demand}
 use Rattle.verdict.proofs.Sound.{group-row, row-demand-fits}
@@ -39,7 +39,7 @@ add-look-at : tie.Need-add-look-at Inv-loop μ-loop
 add-look-at c =
     let p = c .before .before .before in
     let here = p .pre .0 .here in
-    let few = allowed-count _ (p .pre .0 .sizes .count) .1 in
+    let few = few-rows _ (p .pre .0 .sizes) in
     omega arith
 
 look-at-requires : tie.Need-look-at-requires Inv-loop μ-loop
@@ -51,7 +51,7 @@ add-demand : tie.Need-add-demand Inv-loop μ-loop
 add-demand c =
     let p = c .before .before .before .before .before in
     let here = p .pre .0 .here in
-    let few = allowed-count _ (p .pre .0 .sizes .count) .1 in
+    let few = few-rows _ (p .pre .0 .sizes) in
     omega (arith, small (c .before))
 
 later-requires : tie.Need-later-requires Inv-loop μ-loop

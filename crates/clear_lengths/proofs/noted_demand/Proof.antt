@@ -2,7 +2,7 @@
 use borrow.Author.Needs.{needs}
 use Prim.Native.Nat.{_-_, _<_}
 use native.Mathlib.Omega.{arith}
-use Rattle.model.proofs.Sheet.{allowed-count}
+use Rattle.model.proofs.Sheet.{few-rows}
 use Rattle.rows.specs.Words.{sheetOf}
 use Rattle.verdict.specs.Inner.{NotesGiven}
 use Rattle.verdict.proofs.Backward.{Summed, summed-none, summed-more, summed-all}
@@ -26,7 +26,7 @@ mul-loop c = let few = c .loop .inv .0 .few in omega arith
 here : (c : tie.In-loop Inv-loop μ-loop) → c .before .loop .group < 16
 here c =
     let given = c .before .loop .inv .1 .given in
-    omega (arith, given .counted, allowed-count _ (given .sizes .count))
+    omega (arith, given .counted, few-rows _ (given .sizes))
 
 group-demand-requires : tie.Need-group-demand-requires Inv-loop μ-loop
 group-demand-requires c κs =
@@ -50,7 +50,7 @@ loop-again c =
     let q = c .before .before .before .before .before .before .before .before .loop in
     let known = c .before .before .before .before .group-demand .ensures in
     let given = q .inv .1 .given in (
-      summed-more _ _ (q .group) (q .sum) _ (allowed-count _ (given .sizes .count) .1) (omega (arith, given .counted)) (q .inv .0) (known .0 .0)
+      summed-more _ _ (q .group) (q .sum) _ (few-rows _ (given .sizes)) (omega (arith, given .counted)) (q .inv .0) (known .0 .0)
           (known .0 .1),
       known .1,
     )

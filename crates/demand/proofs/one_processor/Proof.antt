@@ -5,11 +5,12 @@ use native.Mathlib.Omega.{arith}
 use borrow.Author.Needs.{needs}
 use denote.Ref.{now}
 use Rattle.model.specs.Sheet.{Sheet}
-use Rattle.model.proofs.Sheet.{allowed-count}
+use Rattle.model.proofs.Sheet.{few-rows}
 use Rattle.rows.specs.declared.Refusal.{Refusal}
 use Rattle.rows.specs.Words.{sheetOf}
 use Rattle.rows.specs.Checks.{notWhole}
-use Rattle.rows.proofs.Checks.{held-last, words-laid}
+use Rattle.rows.proofs.Fold.{held-last}
+use Rattle.rows.proofs.Checks.{words-laid}
 use Rattle.verdict.specs.declared.Outcome.{Outcome}
 use Rattle.verdict.specs.declared.Answer.{Answer}
 use Rattle.verdict.specs.OneProcessor.{oneProcessorRefusalOf, refusedAnswer, answered, Testable}
@@ -63,7 +64,7 @@ row-count-requires : tie.Need-row-count-requires
 row-count-requires c κs = search needs
 
 cast-count : tie.Need-cast-count
-cast-count c = let few = allowed-count _ (facts (c .before) .sizes .count) .1 in omega arith
+cast-count c = let few = few-rows _ (facts (c .before) .sizes) in omega arith
 
 busy-length-requires : tie.Need-busy-length-requires
 busy-length-requires c κs = (given c, words-laid _ (facts (c .before) .laid))

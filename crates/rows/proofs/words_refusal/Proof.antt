@@ -10,7 +10,8 @@ use Rattle.rows.specs.Words.{sheetOf, foundOf, firstOutside}
 use Rattle.rows.specs.Checks.{firstOf, rowsRefusal, refused, wordsRefusal}
 use Rattle.rows.specs.Inner.{shapeRefusal}
 use Rattle.rows.proofs.Words.{found-some, found-none}
-use Rattle.rows.proofs.Checks.{by-number, first-of-zero, shape-few}
+use Rattle.rows.proofs.Fold.{first-of-zero}
+use Rattle.rows.proofs.Checks.{by-number, shape-few}
 use Rattle.rows.proofs.words_refusal.Statement.{statement}
 use Rattle.rows.proofs.words_refusal.Tie as tie
 

@@ -6,7 +6,8 @@ use denote.Ref.{now}
 use Rattle.model.proofs.Sheet.{few-rows}
 use Rattle.rows.specs.declared.Refusal.{Refusal}
 use Rattle.rows.specs.Checks.{processorsRefusal, methodRefusal, firstHeld, laidRefusal, wordsRefusal}
-use Rattle.rows.proofs.Checks.{accepted, held-last, held-more}
+use Rattle.rows.proofs.Fold.{held-last, held-more}
+use Rattle.rows.proofs.Checks.{accepted}
 use Rattle.refinement.proofs.Question.{refused-first, passed-first}
 use Rattle.analysis.proofs.checks.question_refusal.Statement.{statement}
 use Rattle.analysis.proofs.checks.question_refusal.Tie as tie

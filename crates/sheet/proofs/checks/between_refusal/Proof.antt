@@ -1,5 +1,5 @@
 -- 4, then 7: the fold of the two, with each check by its own contract.
-use Rattle.rows.proofs.Checks.{held-last, held-more}
+use Rattle.rows.proofs.Fold.{held-last, held-more}
 use Rattle.grammar.specs.Sheets.{betweenRefusal}
 use Rattle.sheet.proofs.checks.between_refusal.Statement.{statement}
 use Rattle.sheet.proofs.checks.between_refusal.Tie as tie
