@@ -7,6 +7,7 @@ pub mod Chord
 pub mod ByMethod
 pub mod Question
 pub mod Steps
+pub mod Lines
 pub mod Ways
 pub mod Descent
 pub mod Refinement

@@ -2,16 +2,15 @@
 use mathlib.Core.Path.{_≡_, refl, sym, _∙_, ap}
 use mathlib.Core.List.{List}
 use mathlib.Core.Option.{some}
-use Prim.Native.Nat.{ℕ, _+_, _*_, _-_, _/_, _≤_, _<_, min, zero-le}
-use native.Mathlib.Nat.{le-trans, le-refl, le-of-eq, mul-le-mul, mul-add, mul-zero, mul-left-comm, div-mul-le-self}
+use Prim.Native.Nat.{ℕ, _+_, _*_, _-_, _/_, _≤_, _<_, min}
+use native.Mathlib.Nat.{le-trans, le-refl, le-of-eq, mul-le-mul, mul-add, mul-left-comm}
 use native.Mathlib.Omega.{arith}
 use lib.ListN.{getD}
 use Rattle.laws.proofs.Fill.{listed-at}
 use Rattle.laws.proofs.Choice.{better-orElse}
-use Rattle.laws.proofs.Line.{under-smaller, under-add, stays-below}
-use Rattle.laws.proofs.Sum.{total-step, unless-here, unless-other}
+use Rattle.laws.proofs.Line.{under-smaller, stays-below}
+use Rattle.laws.proofs.Sum.{unless-here, unless-other}
 use Rattle.laws.specs.Choice.{Better}
-use Rattle.laws.specs.Inner.{Under}
 use Rattle.laws.specs.Sum.{total}
 use Rattle.model.specs.Sheet.{Sheet}
 use Rattle.model.specs.Interference.{share, carried, work, shareOf, workOf, others, bclTerm, bclValue, rtaTerm, rtaRight}
@@ -23,16 +22,7 @@ use Rattle.model.proofs.Ray.{next-step, within}
 use Rattle.refinement.specs.Inner.Ray.{termBy, capBy, stepTo, termAlong, capAlong, addedAlong, sumAlong, Lies, OnWay, Aimed, SmallLine, SumLine, StaysBelow, Reaches}
 use Rattle.refinement.specs.Refinement.{askOf}
 use Rattle.refinement.proofs.Limits.{not-passed}
-
--- A line lies over anything smaller.
-pub lies-smaller : (f g : ℕ → ℕ) (most value slope limit : ℕ) → ((t : ℕ) → t < most → g t ≤ f t) → Lies f most value slope limit
-    → Lies g most value slope limit
-lies-smaller f g most value slope limit smaller lies =
-    record {
-      under = under-smaller f g value slope limit (λ t h. smaller t (le-trans h (lies .fewer))) (lies .under);
-      fewer = lies .fewer;
-      gentle = lies .gentle;
-    }
+use Rattle.refinement.proofs.Lines.{lies-smaller, Summed}
 
 -- Row i along the ray.
 pub along-at : (n : ℕ) (R drops : List ℕ) (t i : ℕ) → i < n → getD (along n R drops t) i 0 ≡ getD R i 0 - t * getD drops i 0
@@ -117,49 +107,6 @@ room-left : (m left t fall sum room : ℕ) → left + t * fall ≡ room → sum 
 room-left m left t fall sum room start below =
     let whole : m * room ≡ m * left + m * (t * fall) = ap (λ (x : ℕ). m * x) (sym start) ∙ mul-add m left (t * fall) in
     omega (arith, mul-left-comm t m fall)
-
--- A line that falls no slower than the room stays below it; one that falls slower does so for as many steps as what is left holds of the
--- difference.
-pub stays-all : (value slope limit pull room : ℕ) → value < room → pull ≤ slope → StaysBelow value slope limit pull room limit
-stays-all value slope limit pull room begins slower =
-    let level : pull - slope ≡ 0 = omega arith in
-    record { fewer = le-refl limit; begins = λ some. begins; lasts = λ t h. rw (level, mul-zero) zero-le }
-
-pub stays-some : (value slope limit pull room steps : ℕ) → value < room
-    → steps ≡ min limit ((room - 1 - value) / (pull - slope) + 1) → StaysBelow value slope limit pull room steps
-stays-some value slope limit pull room steps begins is-least =
-    record {
-      fewer = omega arith;
-      begins = λ some. begins;
-      lasts = λ t h.
-          le-trans (mul-le-mul {n₂ = (room - 1 - value) / (pull - slope)} (inside t h) (le-refl (pull - slope)))
-          (div-mul-le-self (room - 1 - value) (pull - slope));
-    }
-  where
-    inside : (t : ℕ) → t < steps → t ≤ (room - 1 - value) / (pull - slope)
-    inside t h = let q = (room - 1 - value) / (pull - slope) in omega arith
-
--- Lines over the first n functions of a family, added up.
-pub record Summed (f : ℕ → ℕ → ℕ) (most n value slope limit : ℕ) : Type 0 where
-  pub under : Under (λ t. total (λ i. f i t) n) value slope limit
-  pub fewer : limit ≤ most
-  pub small : value ≤ n * 1_000_000
-  pub gentle : slope ≤ n * 2_000_000
-
-pub summed-none : (f : ℕ → ℕ → ℕ) (most : ℕ) → Summed f most 0 0 0 most
-unfolding total
-summed-none f most = record { under = λ t h. omega arith; fewer = le-refl most; small = omega arith; gentle = omega arith }
-
-pub summed-more : (f : ℕ → ℕ → ℕ) (most n value slope limit v s l : ℕ) → Summed f most n value slope limit → SmallLine (f n) most v s l
-    → Summed f most (n + 1) (value + v) (slope + s) (min limit l)
-summed-more f most n value slope limit v s l summed line =
-    record {
-      under = under-smaller (λ t. total (λ i. f i t) n + f n t) _ _ _ _ (λ t h. le-of-eq (total-step (λ i. f i t) n))
-          (under-add (λ t. total (λ i. f i t) n) (f n) value slope limit v s l (summed .under) (line .lies .under));
-      fewer = omega (arith, summed .fewer);
-      small = omega (arith, summed .small, line .small, next-step n 1_000_000);
-      gentle = omega (arith, summed .gentle, line .lies .gentle, next-step n 2_000_000);
-    }
 
 -- What all rows add is the sum over every other place.
 pub summed-all : (method : Method) (s : Sheet) (R drops : List ℕ) (k most n value slope limit : ℕ) → n ≡ s .rows → n ≤ 64

@@ -2,7 +2,7 @@
 use native.Mathlib.Omega.{arith}
 use Prim.Native.Nat.{_-_}
 use native.Mathlib.Nat.{div-le-self}
-use Rattle.refinement.proofs.Ways.{stays-all, stays-some}
+use Rattle.refinement.proofs.Lines.{stays-all, stays-some}
 use borrow.Author.Needs.{needs}
 use Rattle.slopes.proofs.steps_below.Statement.{statement}
 use Rattle.slopes.proofs.steps_below.Tie as tie

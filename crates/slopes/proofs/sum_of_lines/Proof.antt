@@ -8,7 +8,8 @@ use Rattle.model.proofs.Sheet.{few-rows}
 use Rattle.model.specs.Answer.{methodOf}
 use Rattle.rows.specs.Words.{sheetOf}
 use Rattle.refinement.specs.Inner.Ray.{addedAlong}
-use Rattle.refinement.proofs.Ways.{Summed, summed-none, summed-more, summed-all}
+use Rattle.refinement.proofs.Lines.{Summed, summed-none, summed-more}
+use Rattle.refinement.proofs.Ways.{summed-all}
 use Rattle.slopes.proofs.sum_of_lines.Statement.{statement}
 use Rattle.slopes.proofs.sum_of_lines.Tie as tie
 
