@@ -4,7 +4,7 @@ use mathlib.Core.Bool.{Bool, true, _&&_}
 use mathlib.Core.List.{List}
 use Prim.Native.Nat.{ℕ, _+_, _*_, _<_}
 use lib.Dec.{leb}
-use lib.ListN.{getD}
+use lib.ListN.{length, getD}
 
 -- A sheet: how many rows, and the cost C, the relative deadline D and the period T at each place, in whole microseconds. Rows are
 -- numbered from 0 by place, and rows with equal numbers are different rows.
@@ -22,6 +22,16 @@ triples n words =
       cost = λ k. getD words (3 * k) 0;
       deadline = λ k. getD words (3 * k + 1) 0;
       period = λ k. getD words (3 * k + 2) 0;
+    }
+
+-- The sheet that three lent word lists say, all costs, all deadlines and all periods: row k has word k of each, and the costs count the rows.
+unfoldable pub columns : List ℕ → List ℕ → List ℕ → Sheet
+columns costs deadlines periods =
+    record {
+      rows = length costs;
+      cost = λ k. getD costs k 0;
+      deadline = λ k. getD deadlines k 0;
+      period = λ k. getD periods k 0;
     }
 
 -- A row's sizes: 1 ≤ C ≤ D ≤ T ≤ 1,000,000.

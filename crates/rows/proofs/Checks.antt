@@ -17,9 +17,10 @@ use Rattle.model.specs.Sheet.{Sheet, triples, rowAllowedAt, processorsAllowed, 
 use Rattle.model.proofs.Sheet.{count-allowed, some-rows, few-rows}
 use Rattle.rows.specs.declared.Refusal.{Refusal}
 use Rattle.rows.specs.Words.{sheetOf, outside, firstOutside}
-use Rattle.rows.specs.Checks.{refused, notRefused, countRefusal, processorsRefusal, methodRefusal, roomRefusal, firstOf, rowsRefusal, sheetRefusal, laidRefusal, notWhole, wordsRefusal, Accepted}
-use Rattle.rows.specs.Inner.{shapeRefusal, Laid}
-use Rattle.rows.proofs.Fold.{first-of-zero, next-decides}
+use Rattle.rows.specs.Checks.{refused, notRefused, countRefusal, processorsRefusal, methodRefusal, roomRefusal, firstOf, rowsRefusal, sheetRefusal, laidRefusal, notWhole, Accepted}
+use Rattle.rows.specs.Layouts.{Lent, shapeRefusal}
+use Rattle.rows.specs.Inner.{Laid}
+use Rattle.rows.proofs.Fold.{first-of-zero, next-decides, first-decides}
 
 -- A list without a word left over is three words for each row of its sheet, and the other way round.
 pub words-laid : (words : List ℕ) → notWhole words ≡ false → Laid words
@@ -181,12 +182,13 @@ pub within-method : (method : ℕ) → method ≤ 1 → methodRefusal method ≡
 unfolding methodRefusal
 within-method method small = pick-no _ _ _ (le-ltb 1 method small)
 
--- The same refusal, told by its number: where a check before the rows' sizes holds, its number; else by the first row outside.
-pub by-number : (words : List ℕ) (own : ℕ)
-    → let number = firstOf (shapeRefusal words) own in
-    wordsRefusal words own ≡ unlessRefused number (refused number 0) (rowsRefusal (firstOutside (sheetOf words)))
+-- The same refusal of rows in whatever layout, told by its number: where a check before the rows' sizes holds, its number; else by the first
+-- row outside.
+pub by-number : (lent : Lent) (own : ℕ)
+    → let number = firstOf (shapeRefusal lent) own in
+    laidRefusal (lent .broken) (lent .sheet) own ≡ unlessRefused number (refused number 0) (rowsRefusal (firstOutside (lent .sheet)))
 unfolding laidRefusal sheetRefusal shapeRefusal firstOf unlessRefused
-by-number words own = split (notWhole words) (countRefusal ((sheetOf words) .rows)) (rowsRefusal (firstOutside (sheetOf words)))
+by-number lent own = split (lent .broken) (countRefusal ((lent .sheet) .rows)) (rowsRefusal (firstOutside (lent .sheet)))
   where
     split : (broken : Bool) (count : ℕ) (rows : Refusal)
         → let whole = pick (eqb count 0) own count in
@@ -196,14 +198,22 @@ by-number words own = split (notWhole words) (countRefusal ((sheetOf words) .row
     split true count rows = refl
     split false count rows = refl
 
--- With neither 2 nor 3 there are at most 64 rows.
-pub shape-few : (words : List ℕ) → shapeRefusal words ≡ 0 → (sheetOf words) .rows ≤ 64
+-- With neither 2 nor 3 the layout is not broken, and there are at most 64 rows.
+pub shape-passed : (lent : Lent) → shapeRefusal lent ≡ 0 → (lent .broken ≡ false) × ((lent .sheet) .rows ≤ 64)
 unfolding shapeRefusal
-shape-few words zero = split (notWhole words) zero
+shape-passed lent zero = split (lent .broken) zero
   where
-    split : (broken : Bool) → pick broken 2 (countRefusal ((sheetOf words) .rows)) ≡ 0 → (sheetOf words) .rows ≤ 64
+    split : (broken : Bool) → pick broken 2 (countRefusal ((lent .sheet) .rows)) ≡ 0 → (broken ≡ false) × ((lent .sheet) .rows ≤ 64)
     split true zero = absurd (omega arith)
-    split false zero = count-within ((sheetOf words) .rows) zero .1
+    split false zero = (refl, count-within ((lent .sheet) .rows) zero .1)
+
+-- With 2 or 3 that is the refusal, whatever the entry's own checks say.
+pub shape-refused : (lent : Lent) (own : ℕ) → (shapeRefusal lent ≡ 0 → ⊥) → laidRefusal (lent .broken) (lent .sheet) own ≡ refused (shapeRefusal lent) 0
+shape-refused lent own held =
+    let first = first-decides (shapeRefusal lent) own held in
+    by-number lent own
+    ∙ is-refused _ _ _ (λ zero. held (sym first ∙ zero))
+    ∙ ap (λ (n : ℕ). refused n 0) first
 
 -- Checks made only where the first ones passed: number 0 at the end says that both passed.
 pub both-passed : (first second : Refusal) → (unlessRefused (first .number) first second) .number ≡ 0 → (first .number ≡ 0) × (second .number ≡ 0)

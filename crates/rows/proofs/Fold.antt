@@ -3,10 +3,10 @@ use mathlib.Core.Path.{_≡_, refl, _∙_}
 use mathlib.Core.Bool.{Bool, true, false}
 use mathlib.Core.List.{List, [], _∷_}
 use Prim.Native.Nat.{ℕ}
-use borrow.Author.Tests.{eq-eqb, eqb-true, eqb-false}
+use borrow.Author.Tests.{eq-eqb, ne-eqb, eqb-true, eqb-false}
 use lib.Dec.{eqb}
 use Rattle.laws.specs.Choice.{pick}
-use Rattle.laws.proofs.Choice.{pick-yes}
+use Rattle.laws.proofs.Choice.{pick-yes, pick-no}
 use Rattle.rows.specs.Checks.{firstOf, firstHeld}
 use Rattle.rows.specs.Inner.{NoneHold}
 
@@ -23,6 +23,11 @@ first-of-zero first second zero = split (eqb first 0) refl zero
 pub next-decides : (first second : ℕ) → first ≡ 0 → firstOf first second ≡ second
 unfolding firstOf
 next-decides first second zero = pick-yes _ _ _ (eq-eqb first 0 zero)
+
+-- A check that holds is the first.
+pub first-decides : (first second : ℕ) → (first ≡ 0 → ⊥) → firstOf first second ≡ first
+unfolding firstOf
+first-decides first second held = pick-no _ _ _ (ne-eqb first 0 held)
 
 -- The first of several is 0 exactly where none holds.
 pub none-held : (checks : List ℕ) → firstHeld checks ≡ 0 → NoneHold checks

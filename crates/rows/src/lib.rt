@@ -2,12 +2,12 @@
 mod inner;
 
 use inner::row_allowed_at;
-use inner::shape_refusal;
 use inner::word_at;
 ghost use mathlib.Core.Path.{_≡_};
-ghost use Rattle.model.specs.Sheet.{triples};
+ghost use Rattle.model.specs.Sheet.{triples, rowAllowed};
 ghost use Rattle.rows.specs.Words.{sheetOf, firstOutside, foundOf, boundOr, foundFrom};
 ghost use Rattle.rows.specs.Checks.{rangeRefusal, processorsRefusal, methodRefusal, roomRefusal, firstOf, wordsRefusal};
+ghost use Rattle.rows.specs.Layouts.{inTriples, shapeRefusal};
 
 // What a search found: a place or a length, or that there is none.
 pub enum Found {
@@ -70,6 +70,22 @@ pub fn found_of(bound: u32) -> Found
     }
 }
 
+// Whether a row has its sizes: 1 ≤ C ≤ D ≤ T ≤ 1,000,000.
+pub fn row_allowed(cost: u32, deadline: u32, period: u32) -> bool
+    ensures { λ r. ⌜ r ≡ rowAllowed cost deadline period ⌝ }
+{
+    if cost < 1 {
+        return false;
+    }
+    if deadline < cost {
+        return false;
+    }
+    if period < deadline {
+        return false;
+    }
+    period <= 1_000_000
+}
+
 // The first of so many rows that is outside the sizes allowed.
 pub fn first_outside(words: &[u32], count: u32) -> Found
     ensures { λ r. ⌜ r ≡ foundOf (firstOutside (triples count (now (words .entry)))) ⌝ }
@@ -82,6 +98,22 @@ pub fn first_outside(words: &[u32], count: u32) -> Found
         row += 1;
     }
     Found::Nowhere
+}
+
+// 2 where the list is empty or not whole rows, 3 where it is more than 64 rows, else 0.
+pub fn shape_refusal(words: &[u32]) -> u32
+    ensures { λ r. ⌜ r ≡ shapeRefusal (inTriples (now (words .entry))) ⌝ }
+{
+    if words.len() == 0 {
+        return 2;
+    }
+    if words.len() % 3 != 0 {
+        return 2;
+    }
+    if 64 < row_count(words) {
+        return 3;
+    }
+    0
 }
 
 // The number of a refusal where the value is 0 or above the most allowed, else 0.

@@ -8,10 +8,10 @@ use Rattle.laws.proofs.Choice.{is-refused, not-refused}
 use Rattle.model.specs.Sheet.{triples}
 use Rattle.rows.specs.Words.{sheetOf, foundOf, firstOutside}
 use Rattle.rows.specs.Checks.{firstOf, rowsRefusal, refused, wordsRefusal}
-use Rattle.rows.specs.Inner.{shapeRefusal}
+use Rattle.rows.specs.Layouts.{inTriples, shapeRefusal}
 use Rattle.rows.proofs.Words.{found-some, found-none}
 use Rattle.rows.proofs.Fold.{first-of-zero}
-use Rattle.rows.proofs.Checks.{by-number, shape-few}
+use Rattle.rows.proofs.Checks.{by-number, shape-passed}
 use Rattle.rows.proofs.words_refusal.Statement.{statement}
 use Rattle.rows.proofs.words_refusal.Tie as tie
 
@@ -27,7 +27,7 @@ words c = c .before .before .before .args .words .now
 
 -- The number that the first checks gave.
 abbrev number : tie.After-first-of → ℕ
-number c = firstOf (shapeRefusal (words c)) (c .before .before .before .args .between)
+number c = firstOf (shapeRefusal (inTriples (words c))) (c .before .before .before .args .between)
 
 gave : (c : tie.After-first-of) → c .first-of .result ≡ number c
 gave c = rw (← c .before .shape-refusal .ensures) (c .first-of .ensures)
@@ -36,7 +36,7 @@ returns : tie.Need-returns
 returns c =
     ap (λ (n : ℕ). refused n 0) (gave (c .before))
     ∙ sym
-    (by-number (words (c .before)) _
+    (by-number (inTriples (words (c .before))) _
     ∙ is-refused (number (c .before)) _ _ (λ zero. c .if1 .taken (gave (c .before) ∙ zero)))
 
 row-count-requires : tie.Need-row-count-requires
@@ -46,7 +46,7 @@ cast-first-outside : tie.Need-cast-first-outside
 cast-first-outside c =
     let before = c .before .before in
     let zero : number before ≡ 0 = sym (gave before) ∙ c .before .if1 .left in
-    let few : (sheetOf (words before)) .rows ≤ 64 = shape-few (words before) (first-of-zero _ _ zero .0) in
+    let few : (sheetOf (words before)) .rows ≤ 64 = shape-passed (inTriples (words before)) (first-of-zero _ _ zero .0) .1 in
     omega arith
 
 first-outside-requires : tie.Need-first-outside-requires
@@ -62,7 +62,7 @@ left : (c : tie.After-first-outside)
     ≡ rowsRefusal (firstOutside (sheetOf (words (c .before .before .before))))
 left c =
     let before = c .before .before .before in
-    by-number (words before) _ ∙ not-refused (number before) _ _ (sym (gave before) ∙ c .before .before .if1 .left)
+    by-number (inTriples (words before)) _ ∙ not-refused (number before) _ _ (sym (gave before) ∙ c .before .before .if1 .left)
 
 enum-known-row : tie.Need-enum-known-row
 enum-known-row c = search needs

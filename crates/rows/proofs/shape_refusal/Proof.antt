@@ -1,4 +1,4 @@
--- `rows::inner::shape_refusal` meets its contract: an empty list has no row, and the other tests are the definition's, in their order.
+-- `rows::shape_refusal` meets its contract: an empty list has no row, and the other tests are the definition's, in their order.
 use mathlib.Core.Path.{_≡_, sym, _∙_, ap}
 use mathlib.Core.Bool.{false, not}
 use mathlib.Core.List.{List}
@@ -10,10 +10,10 @@ use Rattle.laws.proofs.Choice.{pick-yes, pick-no}
 use Rattle.model.specs.Sheet.{triples}
 use Rattle.rows.specs.Words.{sheetOf}
 use Rattle.rows.specs.Checks.{notWhole, countRefusal}
-use Rattle.rows.specs.Inner.{shapeRefusal}
+use Rattle.rows.specs.Layouts.{shapeRefusal}
 use Rattle.rows.proofs.Checks.{within-count}
-use Rattle.rows.proofs.inner.shape_refusal.Statement.{statement}
-use Rattle.rows.proofs.inner.shape_refusal.Tie as tie
+use Rattle.rows.proofs.shape_refusal.Statement.{statement}
+use Rattle.rows.proofs.shape_refusal.Tie as tie
 
 returns : tie.Need-returns
 unfolding shapeRefusal notWhole countRefusal sheetOf triples

@@ -1,8 +1,8 @@
--- `rows::inner::row_allowed` meets its contract: the first comparison that fails decides, else the last one.
+-- `rows::row_allowed` meets its contract: the first comparison that fails decides, else the last one.
 use borrow.Author.Tests.{le-leb, lt-leb}
 use Rattle.model.specs.Sheet.{rowAllowed}
-use Rattle.rows.proofs.inner.row_allowed.Statement.{statement}
-use Rattle.rows.proofs.inner.row_allowed.Tie as tie
+use Rattle.rows.proofs.row_allowed.Statement.{statement}
+use Rattle.rows.proofs.row_allowed.Tie as tie
 
 returns : tie.Need-returns
 unfolding rowAllowed
