@@ -1,14 +1,12 @@
 // What other rows take of a row's time.
 use numbers::less;
 use numbers::lesser;
-use rows::cost;
-use rows::deadline;
 ghost use mathlib.Core.Path.{_≡_};
 ghost use Prim.Native.Nat.{_+_, _-_, _≤_, _<_};
 ghost use lib.ListN.{length};
 ghost use Rattle.model.specs.Interference.{share, carried, bclTerm};
-ghost use Rattle.rows.specs.Words.{sheetOf};
-ghost use Rattle.rows.specs.Inner.{Laid};
+ghost use Rattle.model.specs.Sheet.{columns};
+ghost use Rattle.rows.specs.Inner.{Even};
 ghost use Rattle.refinement.specs.Question.{Ready};
 ghost use Rattle.refinement.specs.Inner.{WindowOf, shares};
 
@@ -33,37 +31,53 @@ pub fn work_in_time(cost: u32, period: u32, time: u32) -> u32
 
 // The most that another row takes of the time before a row's deadline: its share, and no more than D - C + 1.
 pub fn capped_share(
-    words: &[u32],
+    costs: &[u32],
+    deadlines: &[u32],
+    periods: &[u32],
     bounds: &[u32],
     row: u32,
     other: u32,
     window: u32,
     cap: u32,
 ) -> u32
-    requires { ⌜ Ready (sheetOf (now words)) (now bounds) × (row < (sheetOf (now words)) .rows) × (other < (sheetOf (now words)) .rows) × WindowOf (sheetOf (now words)) row window cap × Laid (now words) ⌝ }
-    ensures { λ r. ⌜ r ≡ bclTerm (sheetOf (now (words .entry))) row (now (bounds .entry)) other ⌝ }
+    requires { ⌜ (let s = columns (now costs) (now deadlines) (now periods) in Ready s (now bounds) × (row < s .rows) × (other < s .rows) × WindowOf s row window cap × Even (now costs) (now deadlines) (now periods)) ⌝ }
+    ensures { λ r. ⌜ r ≡ bclTerm (columns (now (costs .entry)) (now (deadlines .entry)) (now (periods .entry))) row (now (bounds .entry)) other ⌝ }
 {
-    let at = 3 * (other as usize);
-    let deadline = at + 1;
-    let period = at + 2;
-    let bound = bounds[other as usize];
+    let at = other as usize;
     lesser(
-        share_in_window(words[at], words[deadline], words[period], bound, window),
+        share_in_window(costs[at], deadlines[at], periods[at], bounds[at], window),
         cap,
     )
 }
 
 // Fills in what each other row takes at most, and 0 for the row itself, which is left out by its place: worked out once a turn, whatever X is
 // tried.
-pub fn fill_shares(words: &[u32], bounds: &[u32], row: u32, count: u32, out: &mut [u32])
-    requires { ⌜ Ready (sheetOf (now words)) (now bounds) × (row < (sheetOf (now words)) .rows) × (count ≡ (sheetOf (now words)) .rows) × (length (now out) ≡ count) × Laid (now words) ⌝ }
-    ensures { λ r. ⌜ now (out .exit) ≡ shares (sheetOf (now (words .entry))) row (now (bounds .entry)) ⌝ }
+pub fn fill_shares(
+    costs: &[u32],
+    deadlines: &[u32],
+    periods: &[u32],
+    bounds: &[u32],
+    row: u32,
+    count: u32,
+    out: &mut [u32],
+)
+    requires { ⌜ (let s = columns (now costs) (now deadlines) (now periods) in Ready s (now bounds) × (row < s .rows) × (count ≡ s .rows) × (length (now out) ≡ count) × Even (now costs) (now deadlines) (now periods)) ⌝ }
+    ensures { λ r. ⌜ now (out .exit) ≡ shares (columns (now (costs .entry)) (now (deadlines .entry)) (now (periods .entry))) row (now (bounds .entry)) ⌝ }
 {
-    let window = deadline(words, row);
-    let cap = window - cost(words, row) + 1;
+    let window = deadlines[row as usize];
+    let cap = window - costs[row as usize] + 1;
     let mut other = 0;
     while other < count {
-        out[other as usize] = capped_share(words, bounds, row, other, window, cap);
+        out[other as usize] = capped_share(
+            costs,
+            deadlines,
+            periods,
+            bounds,
+            row,
+            other,
+            window,
+            cap,
+        );
         other += 1;
     }
     out[row as usize] = 0;
