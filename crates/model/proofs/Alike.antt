@@ -35,6 +35,17 @@ alike-back s t alike =
       period = λ k h. sym (alike .period k (inside k h));
     }
 
+-- And over a third sheet.
+pub alike-then : (s t u : Sheet) → Alike s t → Alike t u → Alike s u
+alike-then s t u first second =
+    let inside : (k : ℕ) → k < s .rows → k < t .rows = λ k h. omega (arith, first .rows) in
+    record {
+      rows = first .rows ∙ second .rows;
+      cost = λ k h. first .cost k h ∙ second .cost k (inside k h);
+      deadline = λ k h. first .deadline k h ∙ second .deadline k (inside k h);
+      period = λ k h. first .period k h ∙ second .period k (inside k h);
+    }
+
 -- Each of two alike sheets lies in the other, every row at its own place.
 pub alike-lies : (s t : Sheet) → Alike s t → LiesIn s t (λ k. k)
 alike-lies s t alike =

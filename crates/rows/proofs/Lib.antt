@@ -2,3 +2,4 @@ pub mod Words
 pub mod Fold
 pub mod Checks
 pub mod Alike
+pub mod Layouts

@@ -1,0 +1,98 @@
+-- Layouts: what even columns are, that a list of rows is the same rows in triples and in columns, and what triples taken apart leave.
+use mathlib.Core.Path.{_≡_, refl, sym, _∙_, ap}
+use mathlib.Core.Bool.{false, not, _&&_}
+use mathlib.Core.List.{List, [], _∷_, _++_}
+use Prim.Native.Nat.{ℕ, _+_, _*_, _/_, _%_, _<_}
+use native.Mathlib.Omega.{arith}
+use borrow.Author.Tests.{eq-eqb, eqb-true, not-false}
+use lib.Dec.{eqb}
+use lib.ListN.{length, getD, take}
+use lib.Seq.{take-at}
+use Rattle.laws.specs.Fill.{listed, joined}
+use Rattle.laws.proofs.Choice.{and-left, and-right, and-both}
+use Rattle.laws.proofs.Fill.{listed-length, listed-at, joined-length, joined-at}
+use Rattle.model.specs.Sheet.{Sheet, triples, columns}
+use Rattle.model.specs.Alike.{Alike}
+use Rattle.model.proofs.Alike.{alike-back, alike-then}
+use Rattle.rows.specs.Words.{sheetOf}
+use Rattle.rows.specs.Checks.{notWhole}
+use Rattle.rows.specs.Layouts.{Lent, inTriples, uneven, inColumns, shapeRefusal, SameRows, asTriples, asColumns}
+use Rattle.rows.specs.Inner.{Even}
+use Rattle.rows.proofs.Checks.{shape-passed}
+
+-- Columns whose lengths do not differ have a word for each row.
+pub columns-even : (costs deadlines periods : List ℕ) → uneven costs deadlines periods ≡ false → Even costs deadlines periods
+unfolding uneven columns
+columns-even costs deadlines periods passed =
+    let both = not-false (eqb (length deadlines) (length costs) && eqb (length periods) (length costs)) passed in
+    record {
+      costs-each = refl;
+      deadlines-each = eqb-true _ _ (and-left (eqb (length deadlines) (length costs)) _ both);
+      periods-each = eqb-true _ _ (and-right (eqb (length deadlines) (length costs)) _ both);
+    }
+
+-- The same rows one way are the same rows the other way, and over a third layout.
+pub same-back : (one other : Lent) → SameRows one other → SameRows other one
+same-back one other same = record { layout = sym (same .layout); alike = alike-back _ _ (same .alike) }
+
+pub same-then : (one other third : Lent) → SameRows one other → SameRows other third → SameRows one third
+same-then one other third first second =
+    record { layout = first .layout ∙ second .layout; alike = alike-then _ _ _ (first .alike) (second .alike) }
+
+module _ (s : Sheet) where
+  -- The rows of a sheet, in a layout that is not broken.
+  abbrev laid-out : Lent
+  laid-out = record { broken = false; sheet = s }
+
+  -- In columns they are the same rows: word k of each column is row k's.
+  in-columns-same : SameRows laid-out (asColumns s)
+  unfolding asColumns uneven columns
+  in-columns-same =
+      let n = s .rows in
+      let even : (f : ℕ → ℕ) → length (listed f n) ≡ length (listed (s .cost) n) = λ f. listed-length f n ∙ sym (listed-length (s .cost) n) in
+      record {
+        layout = sym (ap not (and-both _ _ (eq-eqb _ _ (even (s .deadline))) (eq-eqb _ _ (even (s .period)))));
+        alike = record {
+          rows = sym (listed-length (s .cost) n);
+          cost = λ k here. sym (listed-at (s .cost) n k here);
+          deadline = λ k here. sym (listed-at (s .deadline) n k here);
+          period = λ k here. sym (listed-at (s .period) n k here);
+        };
+      }
+
+  -- In triples too: block k holds row k's words.
+  in-triples-same : SameRows laid-out (asTriples s)
+  unfolding asTriples notWhole sheetOf triples
+  in-triples-same =
+      let n = s .rows in
+      let row : ℕ → List ℕ = λ k. s .cost k ∷ s .deadline k ∷ s .period k ∷ [] in
+      let whole : length (joined row n) ≡ n * 3 = joined-length row 3 n (λ k here. refl) in
+      let word : (k i at : ℕ) → k < n → i < 3 → k * 3 + i ≡ at → getD (joined row n) at 0 ≡ getD (row k) i 0 =
+      λ k i at here inside is-at. ap (λ (a : ℕ). getD (joined row n) a 0) (sym is-at) ∙ joined-at row 3 n k i (λ j h. refl) here inside in
+      record {
+        layout = sym (ap not (eq-eqb (length (joined row n) % 3) 0 (omega (arith, whole))));
+        alike = record {
+          rows = omega (arith, whole);
+          cost = λ k here. sym (word k 0 (3 * k) here (omega arith) (omega arith));
+          deadline = λ k here. sym (word k 1 (3 * k + 1) here (omega arith) (omega arith));
+          period = λ k here. sym (word k 2 (3 * k + 2) here (omega arith) (omega arith));
+        };
+      }
+
+  -- So a list of rows is the same rows in either layout.
+  pub layouts-same : SameRows (asTriples s) (asColumns s)
+  layouts-same = same-then _ laid-out _ (same-back laid-out _ in-triples-same) in-columns-same
+
+-- Triples that are neither broken nor too many, taken apart into the front of three columns: the same rows.
+pub taken-apart : (words : List ℕ) (n : ℕ) (costs deadlines periods behind beyond past : List ℕ) → let s = sheetOf words in
+    shapeRefusal (inTriples words) ≡ 0 → n ≡ s .rows
+    → costs ≡ listed (s .cost) (s .rows) → deadlines ≡ listed (s .deadline) (s .rows) → periods ≡ listed (s .period) (s .rows)
+    → SameRows (inTriples words) (inColumns (take n (costs ++ behind)) (take n (deadlines ++ beyond)) (take n (periods ++ past)))
+unfolding asColumns
+taken-apart words n costs deadlines periods behind beyond past passed counted of-costs of-deadlines of-periods =
+    let s = sheetOf words in
+    let front : (f : ℕ → ℕ) (l rest : List ℕ) → l ≡ listed f (s .rows) → take n (l ++ rest) ≡ listed f (s .rows) =
+    λ f l rest same. ap (λ (a : List ℕ). take n (a ++ rest)) same ∙ take-at (listed f (s .rows)) rest n (listed-length f (s .rows) ∙ sym counted) in
+    let apart = in-columns-same s in
+    rw (front (s .cost) costs behind of-costs, front (s .deadline) deadlines beyond of-deadlines, front (s .period) periods past of-periods)
+    record { layout = shape-passed (inTriples words) passed .0 ∙ apart .layout; alike = apart .alike }
