@@ -1,17 +1,15 @@
 // The two engines, which repeat passes until one changes nothing.
 use ray::hasten;
 use ray::note_drops;
-use rows::deadline;
 use turns::Tally;
 use turns::fill_turns;
 use turns::sweep_rows;
 ghost use mathlib.Core.Path.{_≡_};
 ghost use Prim.Native.Nat.{_+_, _≤_, _<_};
 ghost use lib.ListN.{length};
-ghost use Rattle.model.specs.Refine.{deadlines, round, rounds, atOnce};
-ghost use Rattle.model.specs.Sheet.{Allowed};
-ghost use Rattle.rows.specs.Words.{sheetOf};
-ghost use Rattle.rows.specs.Inner.{Laid};
+ghost use Rattle.model.specs.Refine.{round, rounds, atOnce};
+ghost use Rattle.model.specs.Sheet.{columns, Allowed};
+ghost use Rattle.rows.specs.Inner.{Even};
 ghost use Rattle.refinement.specs.Refinement.{askOf, finalBounds, finalMarks};
 ghost use Rattle.refinement.specs.Inner.{Running, AfterPass, Copied};
 
@@ -33,32 +31,43 @@ pub fn copy_back(next: &[u32], bounds: &mut [u32], count: u32) -> bool
     moved
 }
 
-// The deadlines, at which all bounds begin.
-pub fn fill_deadlines(words: &[u32], bounds: &mut [u32], count: u32)
-    requires { ⌜ (count ≡ (sheetOf (now words)) .rows) × (length (now bounds) ≡ count) ⌝ }
-    ensures { λ r. ⌜ now (bounds .exit) ≡ deadlines (sheetOf (now (words .entry))) ⌝ }
+// Copies the deadlines, at which all bounds begin.
+pub fn fill_deadlines(deadlines: &[u32], bounds: &mut [u32], count: u32)
+    requires { ⌜ (length (now deadlines) ≡ count) × (length (now bounds) ≡ count) ⌝ }
+    ensures { λ r. ⌜ now (bounds .exit) ≡ now (deadlines .entry) ⌝ }
 {
     let mut row = 0;
     while row < count {
-        bounds[row as usize] = deadline(words, row);
+        bounds[row as usize] = deadlines[row as usize];
         row += 1;
     }
 }
 
 // A round over the bounds themselves, by way of the space lent for it.
 pub fn round_rows(
-    words: &[u32],
+    costs: &[u32],
+    deadlines: &[u32],
+    periods: &[u32],
     bounds: &mut [u32],
     next: &mut [u32],
     processors: u32,
     method: u32,
     count: u32,
 ) -> Tally
-    requires { ⌜ Running (sheetOf (now words)) (now bounds) count processors method × (length (now next) ≡ count) × Laid (now words) ⌝ }
-    ensures told { λ r. ⌜ AfterPass (sheetOf (now (words .entry))) (askOf (sheetOf (now (words .entry))) processors method) (round (sheetOf (now (words .entry))) (askOf (sheetOf (now (words .entry))) processors method)) (now (bounds .entry)) (now (bounds .exit)) (r .moved) (r .seen) ⌝ }
+    requires { ⌜ (let s = columns (now costs) (now deadlines) (now periods) in Running s (now bounds) count processors method × (length (now next) ≡ count) × Even (now costs) (now deadlines) (now periods)) ⌝ }
+    ensures told { λ r. ⌜ (let s = columns (now (costs .entry)) (now (deadlines .entry)) (now (periods .entry)) in AfterPass s (askOf s processors method) (round s (askOf s processors method)) (now (bounds .entry)) (now (bounds .exit)) (r .moved) (r .seen)) ⌝ }
     ensures kept { λ r. ⌜ length (now (next .exit)) ≡ count ⌝ }
 {
-    let seen = fill_turns(words, bounds, processors, method, count, next);
+    let seen = fill_turns(
+        costs,
+        deadlines,
+        periods,
+        bounds,
+        processors,
+        method,
+        count,
+        next,
+    );
     let moved = copy_back(next, bounds, count);
     Tally {
         moved: moved,
@@ -68,19 +77,30 @@ pub fn round_rows(
 
 // The rounds engine: round after round, until one changes nothing; the marks are those of the last.
 pub fn settle_rounds(
-    words: &[u32],
+    costs: &[u32],
+    deadlines: &[u32],
+    periods: &[u32],
     bounds: &mut [u32],
     next: &mut [u32],
     processors: u32,
     method: u32,
     count: u32,
 ) -> u64
-    requires { ⌜ Running (sheetOf (now words)) (now bounds) count processors method × (length (now next) ≡ count) × Laid (now words) ⌝ }
-    ensures seen { λ r. ⌜ r ≡ finalMarks rounds (sheetOf (now (words .entry))) processors method ⌝ }
-    ensures settled { λ r. ⌜ now (bounds .exit) ≡ finalBounds rounds (sheetOf (now (words .entry))) processors method ⌝ }
+    requires { ⌜ (let s = columns (now costs) (now deadlines) (now periods) in Running s (now bounds) count processors method × (length (now next) ≡ count) × Even (now costs) (now deadlines) (now periods)) ⌝ }
+    ensures seen { λ r. ⌜ r ≡ finalMarks rounds (columns (now (costs .entry)) (now (deadlines .entry)) (now (periods .entry))) processors method ⌝ }
+    ensures settled { λ r. ⌜ now (bounds .exit) ≡ finalBounds rounds (columns (now (costs .entry)) (now (deadlines .entry)) (now (periods .entry))) processors method ⌝ }
 {
     loop {
-        let outcome = round_rows(words, bounds, next, processors, method, count);
+        let outcome = round_rows(
+            costs,
+            deadlines,
+            periods,
+            bounds,
+            next,
+            processors,
+            method,
+            count,
+        );
         let again = outcome.moved;
         if !again {
             return outcome.seen;
@@ -91,7 +111,9 @@ pub fn settle_rounds(
 // The at-once engine: sweep after sweep, until one changes nothing; the marks are those of the last. Between sweeps bounds may be lowered
 // further, as far as turns allow it: the end is the same.
 pub fn settle_at_once(
-    words: &[u32],
+    costs: &[u32],
+    deadlines: &[u32],
+    periods: &[u32],
     bounds: &mut [u32],
     before: &mut [u32],
     drops: &mut [u32],
@@ -101,14 +123,16 @@ pub fn settle_at_once(
     method: u32,
     count: u32,
 ) -> u64
-    requires { ⌜ Running (sheetOf (now words)) (now bounds) count processors method × (length (now before) ≡ count) × (length (now drops) ≡ count) × (length (now others) ≡ 320) × (length (now room) ≡ count) × Laid (now words) ⌝ }
-    ensures seen { λ r. ⌜ r ≡ finalMarks atOnce (sheetOf (now (words .entry))) processors method ⌝ }
-    ensures settled { λ r. ⌜ now (bounds .exit) ≡ finalBounds atOnce (sheetOf (now (words .entry))) processors method ⌝ }
+    requires { ⌜ (let s = columns (now costs) (now deadlines) (now periods) in Running s (now bounds) count processors method × (length (now before) ≡ count) × (length (now drops) ≡ count) × (length (now others) ≡ 320) × (length (now room) ≡ count) × Even (now costs) (now deadlines) (now periods)) ⌝ }
+    ensures seen { λ r. ⌜ r ≡ finalMarks atOnce (columns (now (costs .entry)) (now (deadlines .entry)) (now (periods .entry))) processors method ⌝ }
+    ensures settled { λ r. ⌜ now (bounds .exit) ≡ finalBounds atOnce (columns (now (costs .entry)) (now (deadlines .entry)) (now (periods .entry))) processors method ⌝ }
 {
     let mut sweeps = 0;
     loop {
         let outcome = sweep_rows(
-            words,
+            costs,
+            deadlines,
+            periods,
             bounds,
             before,
             processors,
@@ -121,50 +145,84 @@ pub fn settle_at_once(
         if !moved {
             return outcome.seen;
         }
-        note_drops(words, bounds, before, drops, count, sweeps);
+        note_drops(
+            costs,
+            deadlines,
+            periods,
+            bounds,
+            before,
+            drops,
+            count,
+            sweeps,
+        );
         sweeps = (sweeps + 1) % 8;
-        hasten(words, bounds, drops, processors, method, count, sweeps);
+        hasten(
+            costs,
+            deadlines,
+            periods,
+            bounds,
+            drops,
+            processors,
+            method,
+            count,
+            sweeps,
+        );
     }
 }
 
 // The rounds engine from its start: all bounds at the deadlines.
 pub fn run_rounds(
-    words: &[u32],
+    costs: &[u32],
+    deadlines: &[u32],
+    periods: &[u32],
     bounds: &mut [u32],
     processors: u32,
     method: u32,
     count: u32,
 ) -> u64
-    requires { ⌜ Allowed (sheetOf (now words)) × (count ≡ (sheetOf (now words)) .rows) × (1 ≤ processors) × (length (now bounds) ≡ count) × (processors ≤ 64) × Laid (now words) ⌝ }
-    ensures seen { λ r. ⌜ r ≡ finalMarks rounds (sheetOf (now (words .entry))) processors method ⌝ }
-    ensures settled { λ r. ⌜ now (bounds .exit) ≡ finalBounds rounds (sheetOf (now (words .entry))) processors method ⌝ }
+    requires { ⌜ (let s = columns (now costs) (now deadlines) (now periods) in Allowed s × (count ≡ s .rows) × (1 ≤ processors) × (length (now bounds) ≡ count) × (processors ≤ 64) × Even (now costs) (now deadlines) (now periods)) ⌝ }
+    ensures seen { λ r. ⌜ r ≡ finalMarks rounds (columns (now (costs .entry)) (now (deadlines .entry)) (now (periods .entry))) processors method ⌝ }
+    ensures settled { λ r. ⌜ now (bounds .exit) ≡ finalBounds rounds (columns (now (costs .entry)) (now (deadlines .entry)) (now (periods .entry))) processors method ⌝ }
 {
-    fill_deadlines(words, bounds, count);
+    fill_deadlines(deadlines, bounds, count);
     let mut next = [0u32; 64];
     let end = count as usize;
-    settle_rounds(words, bounds, &mut next[..end], processors, method, count)
+    settle_rounds(
+        costs,
+        deadlines,
+        periods,
+        bounds,
+        &mut next[..end],
+        processors,
+        method,
+        count,
+    )
 }
 
 // The at-once engine from its start: all bounds at the deadlines.
 pub fn run_at_once(
-    words: &[u32],
+    costs: &[u32],
+    deadlines: &[u32],
+    periods: &[u32],
     bounds: &mut [u32],
     processors: u32,
     method: u32,
     count: u32,
 ) -> u64
-    requires { ⌜ Allowed (sheetOf (now words)) × (count ≡ (sheetOf (now words)) .rows) × (1 ≤ processors) × (length (now bounds) ≡ count) × (processors ≤ 64) × Laid (now words) ⌝ }
-    ensures seen { λ r. ⌜ r ≡ finalMarks atOnce (sheetOf (now (words .entry))) processors method ⌝ }
-    ensures settled { λ r. ⌜ now (bounds .exit) ≡ finalBounds atOnce (sheetOf (now (words .entry))) processors method ⌝ }
+    requires { ⌜ (let s = columns (now costs) (now deadlines) (now periods) in Allowed s × (count ≡ s .rows) × (1 ≤ processors) × (length (now bounds) ≡ count) × (processors ≤ 64) × Even (now costs) (now deadlines) (now periods)) ⌝ }
+    ensures seen { λ r. ⌜ r ≡ finalMarks atOnce (columns (now (costs .entry)) (now (deadlines .entry)) (now (periods .entry))) processors method ⌝ }
+    ensures settled { λ r. ⌜ now (bounds .exit) ≡ finalBounds atOnce (columns (now (costs .entry)) (now (deadlines .entry)) (now (periods .entry))) processors method ⌝ }
 {
-    fill_deadlines(words, bounds, count);
+    fill_deadlines(deadlines, bounds, count);
     let mut before = [0u32; 64];
     let mut drops = [0u32; 64];
     let mut others = [0u32; 320];
     let mut room = [0u32; 64];
     let end = count as usize;
     settle_at_once(
-        words,
+        costs,
+        deadlines,
+        periods,
         bounds,
         &mut before[..end],
         &mut drops[..end],

@@ -4,16 +4,15 @@ use pending::Pending;
 use pending::fill_rooms;
 use pending::keep_pending;
 use pending::meet_others;
-use rows::cost;
-use rows::deadline;
 ghost use mathlib.Core.Path.{_≡_};
 ghost use Prim.Native.Nat.{ℕ, _+_, _*_, _-_, _≤_, _<_, min};
 ghost use lib.Dec.{leb};
 ghost use lib.ListN.{length, getD};
 ghost use Rattle.laws.specs.Sum.{total};
 ghost use Rattle.model.specs.Answer.{rtaAnswer};
-ghost use Rattle.rows.specs.Words.{sheetOf, foundOf, boundOr};
-ghost use Rattle.rows.specs.Inner.{Laid};
+ghost use Rattle.model.specs.Sheet.{columns};
+ghost use Rattle.rows.specs.Words.{foundOf, boundOr};
+ghost use Rattle.rows.specs.Inner.{Even};
 ghost use Rattle.refinement.specs.Question.{Ready};
 ghost use Rattle.refinement.specs.Inner.{Rooms, Jumped};
 ghost use Rattle.refinement.specs.Inner.Kept.{KeptRow, KeptRows, Kept, Tried, lineAt, keptSum, Excluded};
@@ -192,7 +191,9 @@ pub fn onward(
 
 // RTA: climbs from the cost past what is excluded to the least X that is its own right side; 0 where there is none up to the deadline.
 pub fn rta_quickly(
-    words: &[u32],
+    costs: &[u32],
+    deadlines: &[u32],
+    periods: &[u32],
     bounds: &[u32],
     row: u32,
     count: u32,
@@ -200,12 +201,12 @@ pub fn rta_quickly(
     others: &mut [u32],
     room: &mut [u32],
 ) -> u32
-    requires { ⌜ Ready (sheetOf (now words)) (now bounds) × (row < (sheetOf (now words)) .rows) × (count ≡ (sheetOf (now words)) .rows) × (1 ≤ processors) × (processors ≤ 64) × (length (now others) ≡ 320) × (length (now room) ≡ count) × Laid (now words) ⌝ }
-    ensures { λ r. ⌜ r ≡ boundOr (foundOf (rtaAnswer (sheetOf (now (words .entry))) processors row (now (bounds .entry)))) 0 ⌝ }
+    requires { ⌜ (let s = columns (now costs) (now deadlines) (now periods) in Ready s (now bounds) × (row < s .rows) × (count ≡ s .rows) × (1 ≤ processors) × (processors ≤ 64) × (length (now others) ≡ 320) × (length (now room) ≡ count) × Even (now costs) (now deadlines) (now periods)) ⌝ }
+    ensures { λ r. ⌜ r ≡ boundOr (foundOf (rtaAnswer (columns (now (costs .entry)) (now (deadlines .entry)) (now (periods .entry))) processors row (now (bounds .entry)))) 0 ⌝ }
 {
-    let own = cost(words, row);
-    let top = deadline(words, row);
-    let mut rows = meet_others(words, bounds, row, count, top, others);
+    let own = costs[row as usize];
+    let top = deadlines[row as usize];
+    let mut rows = meet_others(costs, deadlines, periods, bounds, row, count, top, others);
     let mut x = own;
     let mut step = 0u32;
     loop {

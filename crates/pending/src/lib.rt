@@ -3,16 +3,14 @@
 use interference::share_in_window;
 use interference::work_in_time;
 use numbers::lesser;
-use rows::cost;
-use rows::deadline;
 ghost use mathlib.Core.Path.{_≡_};
 ghost use mathlib.Core.List.{_++_};
 ghost use Prim.Native.Nat.{ℕ, _+_, _*_, _-_, _≤_, _<_, min};
 ghost use lib.ListN.{length, drop};
 ghost use Rattle.laws.specs.Sum.{total};
 ghost use Rattle.laws.specs.Fill.{listed};
-ghost use Rattle.rows.specs.Words.{sheetOf};
-ghost use Rattle.rows.specs.Inner.{Laid};
+ghost use Rattle.model.specs.Sheet.{columns};
+ghost use Rattle.rows.specs.Inner.{Even};
 ghost use Rattle.refinement.specs.Question.{Ready};
 ghost use Rattle.refinement.specs.Inner.{termOf, shareIn, reach};
 ghost use Rattle.refinement.specs.Inner.Kept.{KeptRow, KeptOf, Kept, putRow, termAt, topAt, roomAt, keptSum, Met};
@@ -80,7 +78,9 @@ pub fn term_and_top(others: &[u32], place: u32, x: u32, cap: u32) -> Rise
 
 // Takes in the rows of a stretch of places. A share of 0 or 1 is added whole at every X: it is settled at once.
 pub fn meet(
-    words: &[u32],
+    costs: &[u32],
+    deadlines: &[u32],
+    periods: &[u32],
     bounds: &[u32],
     from: u32,
     to: u32,
@@ -88,19 +88,19 @@ pub fn meet(
     others: &mut [u32],
     before: Pending,
 ) -> Pending
-    requires { ⌜ Ready (sheetOf (now words)) (now bounds) × (from ≤ to) × (to ≤ (sheetOf (now words)) .rows) × (window ≤ 1_000_000) × KeptOf from (now others) (before .left) (before .settled) × Laid (now words) ⌝ }
+    requires { ⌜ (let s = columns (now costs) (now deadlines) (now periods) in Ready s (now bounds) × (from ≤ to) × (to ≤ s .rows) × (window ≤ 1_000_000) × KeptOf from (now others) (before .left) (before .settled) × Even (now costs) (now deadlines) (now periods)) ⌝ }
     ensures kept { λ r. ⌜ KeptOf to (now (others .exit)) (r .left) (r .settled) ⌝ }
-    ensures sums { λ r. ⌜ ((x cap : ℕ) → 1 ≤ x → 1 ≤ cap → keptSum (now (others .exit)) (r .left) (r .settled) x cap + total (termOf (sheetOf (now (words .entry))) (now (bounds .entry)) (shareIn (sheetOf (now (words .entry))) (now (bounds .entry)) window) x cap) from ≡ keptSum (now (others .entry)) (before .left) (before .settled) x cap + total (termOf (sheetOf (now (words .entry))) (now (bounds .entry)) (shareIn (sheetOf (now (words .entry))) (now (bounds .entry)) window) x cap) to) ⌝ }
+    ensures sums { λ r. ⌜ (let s = columns (now (costs .entry)) (now (deadlines .entry)) (now (periods .entry)) in ((x cap : ℕ) → 1 ≤ x → 1 ≤ cap → keptSum (now (others .exit)) (r .left) (r .settled) x cap + total (termOf s (now (bounds .entry)) (shareIn s (now (bounds .entry)) window) x cap) from ≡ keptSum (now (others .entry)) (before .left) (before .settled) x cap + total (termOf s (now (bounds .entry)) (shareIn s (now (bounds .entry)) window) x cap) to)) ⌝ }
 {
     let mut settled = before.settled;
     let mut left = before.left;
     let mut place = from;
     while place < to {
-        let row = 3 * (place as usize);
-        let own = words[row];
-        let period = words[row + 2];
-        let bound = bounds[place as usize];
-        let share = share_in_window(own, words[row + 1], period, bound, window);
+        let at = place as usize;
+        let own = costs[at];
+        let period = periods[at];
+        let bound = bounds[at];
+        let share = share_in_window(own, deadlines[at], period, bound, window);
         let rise = rise_of(own, period, share);
         put_row(others, left, own, period, bound - own, share, rise);
         if 1 < share {
@@ -118,22 +118,44 @@ pub fn meet(
 
 // Takes in every other row, which is told by its place.
 pub fn meet_others(
-    words: &[u32],
+    costs: &[u32],
+    deadlines: &[u32],
+    periods: &[u32],
     bounds: &[u32],
     row: u32,
     count: u32,
     window: u32,
     others: &mut [u32],
 ) -> Pending
-    requires { ⌜ Ready (sheetOf (now words)) (now bounds) × (row < (sheetOf (now words)) .rows) × (count ≡ (sheetOf (now words)) .rows) × (window ≡ (sheetOf (now words)) .deadline row) × (length (now others) ≡ 320) × Laid (now words) ⌝ }
-    ensures { λ r. ⌜ Met (sheetOf (now (words .entry))) (now (bounds .entry)) (now (others .exit)) row (r .left) (r .settled) ((sheetOf (now (words .entry))) .cost row) ⌝ }
+    requires { ⌜ (let s = columns (now costs) (now deadlines) (now periods) in Ready s (now bounds) × (row < s .rows) × (count ≡ s .rows) × (window ≡ s .deadline row) × (length (now others) ≡ 320) × Even (now costs) (now deadlines) (now periods)) ⌝ }
+    ensures { λ r. ⌜ (let s = columns (now (costs .entry)) (now (deadlines .entry)) (now (periods .entry)) in Met s (now (bounds .entry)) (now (others .exit)) row (r .left) (r .settled) (s .cost row)) ⌝ }
 {
     let none = Pending {
         left: 0,
         settled: 0,
     };
-    let ahead = meet(words, bounds, 0, row, window, others, none);
-    meet(words, bounds, row + 1, count, window, others, ahead)
+    let ahead = meet(
+        costs,
+        deadlines,
+        periods,
+        bounds,
+        0,
+        row,
+        window,
+        others,
+        none,
+    );
+    meet(
+        costs,
+        deadlines,
+        periods,
+        bounds,
+        row + 1,
+        count,
+        window,
+        others,
+        ahead,
+    )
 }
 
 // Leaves out the rows that add their whole share at X: they add no more above it. What is kept moves to the front.

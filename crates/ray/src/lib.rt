@@ -9,8 +9,8 @@ ghost use mathlib.Core.Path.{_≡_};
 ghost use Prim.Native.Nat.{ℕ, _+_, _*_, _-_, _≤_, _<_};
 ghost use lib.ListN.{length, getD};
 ghost use Rattle.model.specs.Inner.{along};
-ghost use Rattle.rows.specs.Words.{sheetOf};
-ghost use Rattle.rows.specs.Inner.{Laid};
+ghost use Rattle.model.specs.Sheet.{columns};
+ghost use Rattle.rows.specs.Inner.{Even};
 ghost use Rattle.refinement.specs.Question.{Ready};
 ghost use Rattle.refinement.specs.Refinement.{askOf};
 ghost use Rattle.refinement.specs.Inner.{Running};
@@ -18,7 +18,9 @@ ghost use Rattle.refinement.specs.Inner.Ray.{OnWay, Reaches, Small, Roomy, Lowe
 
 // For how many steps a row's turn allows the next one: its sum stays below what it has left.
 pub fn row_reach(
-    words: &[u32],
+    costs: &[u32],
+    deadlines: &[u32],
+    periods: &[u32],
     bounds: &[u32],
     drops: &[u32],
     row: u32,
@@ -27,55 +29,71 @@ pub fn row_reach(
     method: u32,
     most: u32,
 ) -> u32
-    requires { ⌜ OnWay (sheetOf (now words)) (now bounds) (now drops) row most × (count ≡ (sheetOf (now words)) .rows) × (1 ≤ processors) × (processors ≤ 64) × Laid (now words) ⌝ }
-    ensures { λ r. ⌜ Reaches (sheetOf (now (words .entry))) (askOf (sheetOf (now (words .entry))) processors method) (now (bounds .entry)) (now (drops .entry)) row most r ⌝ }
+    requires { ⌜ (let s = columns (now costs) (now deadlines) (now periods) in OnWay s (now bounds) (now drops) row most × (count ≡ s .rows) × (1 ≤ processors) × (processors ≤ 64) × Even (now costs) (now deadlines) (now periods)) ⌝ }
+    ensures { λ r. ⌜ (let s = columns (now (costs .entry)) (now (deadlines .entry)) (now (periods .entry)) in Reaches s (askOf s processors method) (now (bounds .entry)) (now (drops .entry)) row most r) ⌝ }
 {
     if most == 0 {
         return 0;
     }
-    let own = 3 * (row as usize);
-    let deadline = own + 1;
-    let fall = drops[row as usize];
-    let first = bounds[row as usize] - fall;
+    let at = row as usize;
+    let fall = drops[at];
+    let first = bounds[at] - fall;
     let way = Way {
         row: row,
-        window: words[deadline],
+        window: deadlines[at],
         first: first,
         fall: fall,
         most: most,
         method: method,
     };
-    let cap = cap_line(words, bounds, drops, way);
-    let line = sum_of_lines(words, bounds, drops, count, way, cap);
+    let cap = cap_line(costs, deadlines, periods, bounds, drops, way);
+    let line = sum_of_lines(costs, deadlines, periods, bounds, drops, count, way, cap);
     steps_below(
         line,
         processors * fall,
-        processors * (first - words[own] + 1),
+        processors * (first - costs[at] + 1),
     )
 }
 
 // How many of its drops a row has above its cost.
-pub fn row_room(words: &[u32], bounds: &[u32], drops: &[u32], row: u32) -> u32
-    requires { ⌜ Ready (sheetOf (now words)) (now bounds) × (length (now drops) ≡ (sheetOf (now words)) .rows) × (row < (sheetOf (now words)) .rows) × Laid (now words) ⌝ }
-    ensures { λ r. ⌜ r * getD (now (drops .entry)) row 0 + (sheetOf (now (words .entry))) .cost row ≤ getD (now (bounds .entry)) row 0 ⌝ }
+pub fn row_room(
+    costs: &[u32],
+    deadlines: &[u32],
+    periods: &[u32],
+    bounds: &[u32],
+    drops: &[u32],
+    row: u32,
+) -> u32
+    requires { ⌜ (let s = columns (now costs) (now deadlines) (now periods) in Ready s (now bounds) × (length (now drops) ≡ s .rows) × (row < s .rows) × Even (now costs) (now deadlines) (now periods)) ⌝ }
+    ensures { λ r. ⌜ r * getD (now (drops .entry)) row 0 + (columns (now (costs .entry)) (now (deadlines .entry)) (now (periods .entry))) .cost row ≤ getD (now (bounds .entry)) row 0 ⌝ }
 {
-    let at = 3 * (row as usize);
-    let drop = drops[row as usize];
+    let at = row as usize;
+    let drop = drops[at];
     if drop == 0 {
         return 1_000_000;
     }
-    (bounds[row as usize] - words[at]) / drop
+    (bounds[at] - costs[at]) / drop
 }
 
 // How many steps every row has room for.
-pub fn most_steps(words: &[u32], bounds: &[u32], drops: &[u32], count: u32) -> u32
-    requires { ⌜ Ready (sheetOf (now words)) (now bounds) × (count ≡ (sheetOf (now words)) .rows) × (length (now drops) ≡ count) × Laid (now words) ⌝ }
-    ensures { λ r. ⌜ Roomy (sheetOf (now (words .entry))) (now (bounds .entry)) (now (drops .entry)) r ⌝ }
+pub fn most_steps(
+    costs: &[u32],
+    deadlines: &[u32],
+    periods: &[u32],
+    bounds: &[u32],
+    drops: &[u32],
+    count: u32,
+) -> u32
+    requires { ⌜ (let s = columns (now costs) (now deadlines) (now periods) in Ready s (now bounds) × (count ≡ s .rows) × (length (now drops) ≡ count) × Even (now costs) (now deadlines) (now periods)) ⌝ }
+    ensures { λ r. ⌜ Roomy (columns (now (costs .entry)) (now (deadlines .entry)) (now (periods .entry))) (now (bounds .entry)) (now (drops .entry)) r ⌝ }
 {
     let mut most = 1_000_000;
     let mut row = 0;
     while row < count {
-        most = lesser(most, row_room(words, bounds, drops, row));
+        most = lesser(
+            most,
+            row_room(costs, deadlines, periods, bounds, drops, row),
+        );
         row += 1;
     }
     most
@@ -84,7 +102,9 @@ pub fn most_steps(words: &[u32], bounds: &[u32], drops: &[u32], count: u32) -> u
 // One step down the ray, row by row, as long as each row's turn allows it, and how many more may be made at once. A row that is not
 // allowed its drop loses it, and the ray ends there.
 pub fn ray_pass(
-    words: &[u32],
+    costs: &[u32],
+    deadlines: &[u32],
+    periods: &[u32],
     bounds: &mut [u32],
     drops: &mut [u32],
     processors: u32,
@@ -92,15 +112,26 @@ pub fn ray_pass(
     count: u32,
     most: u32,
 ) -> u32
-    requires { ⌜ Running (sheetOf (now words)) (now bounds) count processors method × Small ((sheetOf (now words)) .rows) (now drops) × Roomy (sheetOf (now words)) (now bounds) (now drops) most × Laid (now words) ⌝ }
-    ensures { λ r. ⌜ Lowered (sheetOf (now (words .entry))) (askOf (sheetOf (now (words .entry))) processors method) (now (bounds .entry)) (now (bounds .exit)) (now (drops .exit)) r ⌝ }
+    requires { ⌜ (let s = columns (now costs) (now deadlines) (now periods) in Running s (now bounds) count processors method × Small (s .rows) (now drops) × Roomy s (now bounds) (now drops) most × Even (now costs) (now deadlines) (now periods)) ⌝ }
+    ensures { λ r. ⌜ (let s = columns (now (costs .entry)) (now (deadlines .entry)) (now (periods .entry)) in Lowered s (askOf s processors method) (now (bounds .entry)) (now (bounds .exit)) (now (drops .exit)) r) ⌝ }
 {
     let mut steps = most;
     let mut row = 0;
     while row < count {
         let drop = drops[row as usize];
         if drop != 0 {
-            let reach = row_reach(words, bounds, drops, row, count, processors, method, steps);
+            let reach = row_reach(
+                costs,
+                deadlines,
+                periods,
+                bounds,
+                drops,
+                row,
+                count,
+                processors,
+                method,
+                steps,
+            );
             if reach == 0 {
                 drops[row as usize] = 0;
                 return 0;
@@ -138,64 +169,82 @@ pub fn next_drop(seen: u32, before: u32, bound: u32, cost: u32, sweeps: u32) -> 
 
 // Guesses every row's next drop after a sweep, from the bounds before it.
 pub fn note_drops(
-    words: &[u32],
+    costs: &[u32],
+    deadlines: &[u32],
+    periods: &[u32],
     bounds: &[u32],
     before: &[u32],
     drops: &mut [u32],
     count: u32,
     sweeps: u32,
 )
-    requires { ⌜ Ready (sheetOf (now words)) (now bounds) × (count ≡ (sheetOf (now words)) .rows) × (length (now drops) ≡ count) × (length (now before) ≡ count) × Laid (now words) ⌝ }
-    ensures { λ r. ⌜ Small ((sheetOf (now (words .entry))) .rows) (now (drops .exit)) ⌝ }
+    requires { ⌜ (let s = columns (now costs) (now deadlines) (now periods) in Ready s (now bounds) × (count ≡ s .rows) × (length (now drops) ≡ count) × (length (now before) ≡ count) × Even (now costs) (now deadlines) (now periods)) ⌝ }
+    ensures { λ r. ⌜ Small ((columns (now (costs .entry)) (now (deadlines .entry)) (now (periods .entry))) .rows) (now (drops .exit)) ⌝ }
 {
     let mut row = 0;
     while row < count {
-        let at = 3 * (row as usize);
-        let place = row as usize;
-        drops[place] = next_drop(
-            drops[place],
-            before[place],
-            bounds[place],
-            words[at],
-            sweeps,
-        );
+        let at = row as usize;
+        drops[at] = next_drop(drops[at], before[at], bounds[at], costs[at], sweeps);
         row += 1;
     }
 }
 
 // One ray: a pass, and the further steps that it found to be allowed, whose number is returned.
 pub fn ray_once(
-    words: &[u32],
+    costs: &[u32],
+    deadlines: &[u32],
+    periods: &[u32],
     bounds: &mut [u32],
     drops: &mut [u32],
     processors: u32,
     method: u32,
     count: u32,
 ) -> u32
-    requires { ⌜ Running (sheetOf (now words)) (now bounds) count processors method × Small ((sheetOf (now words)) .rows) (now drops) × Laid (now words) ⌝ }
-    ensures { λ r. ⌜ Descended (sheetOf (now (words .entry))) (askOf (sheetOf (now (words .entry))) processors method) (now (bounds .entry)) (now (bounds .exit)) (now (drops .exit)) ⌝ }
+    requires { ⌜ (let s = columns (now costs) (now deadlines) (now periods) in Running s (now bounds) count processors method × Small (s .rows) (now drops) × Even (now costs) (now deadlines) (now periods)) ⌝ }
+    ensures { λ r. ⌜ (let s = columns (now (costs .entry)) (now (deadlines .entry)) (now (periods .entry)) in Descended s (askOf s processors method) (now (bounds .entry)) (now (bounds .exit)) (now (drops .exit))) ⌝ }
 {
-    let most = most_steps(words, bounds, drops, count);
-    let further = ray_pass(words, bounds, drops, processors, method, count, most);
+    let most = most_steps(costs, deadlines, periods, bounds, drops, count);
+    let further = ray_pass(
+        costs,
+        deadlines,
+        periods,
+        bounds,
+        drops,
+        processors,
+        method,
+        count,
+        most,
+    );
     step_down(bounds, drops, count, further);
     further
 }
 
 // Rays until one goes further than a step, or every row may have lost its drop.
 pub fn descend(
-    words: &[u32],
+    costs: &[u32],
+    deadlines: &[u32],
+    periods: &[u32],
     bounds: &mut [u32],
     drops: &mut [u32],
     processors: u32,
     method: u32,
     count: u32,
 )
-    requires { ⌜ Running (sheetOf (now words)) (now bounds) count processors method × Small ((sheetOf (now words)) .rows) (now drops) × Laid (now words) ⌝ }
-    ensures { λ r. ⌜ Descended (sheetOf (now (words .entry))) (askOf (sheetOf (now (words .entry))) processors method) (now (bounds .entry)) (now (bounds .exit)) (now (drops .exit)) ⌝ }
+    requires { ⌜ (let s = columns (now costs) (now deadlines) (now periods) in Running s (now bounds) count processors method × Small (s .rows) (now drops) × Even (now costs) (now deadlines) (now periods)) ⌝ }
+    ensures { λ r. ⌜ (let s = columns (now (costs .entry)) (now (deadlines .entry)) (now (periods .entry)) in Descended s (askOf s processors method) (now (bounds .entry)) (now (bounds .exit)) (now (drops .exit))) ⌝ }
 {
     let mut tries = count;
     while 0 < tries {
-        let further = ray_once(words, bounds, drops, processors, method, count);
+        let further = ray_once(
+            costs,
+            deadlines,
+            periods,
+            bounds,
+            drops,
+            processors,
+            method,
+            count,
+        );
         if 0 < further {
             return;
         }
@@ -205,7 +254,9 @@ pub fn descend(
 
 // After every fourth sweep the drops noted are followed down; else nothing is done.
 pub fn hasten(
-    words: &[u32],
+    costs: &[u32],
+    deadlines: &[u32],
+    periods: &[u32],
     bounds: &mut [u32],
     drops: &mut [u32],
     processors: u32,
@@ -213,11 +264,20 @@ pub fn hasten(
     count: u32,
     sweeps: u32,
 )
-    requires { ⌜ Running (sheetOf (now words)) (now bounds) count processors method × Small ((sheetOf (now words)) .rows) (now drops) × Laid (now words) ⌝ }
-    ensures { λ r. ⌜ Descended (sheetOf (now (words .entry))) (askOf (sheetOf (now (words .entry))) processors method) (now (bounds .entry)) (now (bounds .exit)) (now (drops .exit)) ⌝ }
+    requires { ⌜ (let s = columns (now costs) (now deadlines) (now periods) in Running s (now bounds) count processors method × Small (s .rows) (now drops) × Even (now costs) (now deadlines) (now periods)) ⌝ }
+    ensures { λ r. ⌜ (let s = columns (now (costs .entry)) (now (deadlines .entry)) (now (periods .entry)) in Descended s (askOf s processors method) (now (bounds .entry)) (now (bounds .exit)) (now (drops .exit))) ⌝ }
 {
     if sweeps % 4 != 0 {
         return;
     }
-    descend(words, bounds, drops, processors, method, count);
+    descend(
+        costs,
+        deadlines,
+        periods,
+        bounds,
+        drops,
+        processors,
+        method,
+        count,
+    );
 }

@@ -7,8 +7,8 @@ ghost use mathlib.Core.Path.{_≡_};
 ghost use Prim.Native.Nat.{ℕ, _+_, _*_, _-_, _≤_, _<_};
 ghost use Rattle.model.specs.Answer.{methodOf};
 ghost use Rattle.model.specs.Interference.{share, carried};
-ghost use Rattle.rows.specs.Words.{sheetOf};
-ghost use Rattle.rows.specs.Inner.{Laid};
+ghost use Rattle.model.specs.Sheet.{columns};
+ghost use Rattle.rows.specs.Inner.{Even};
 ghost use Rattle.refinement.specs.Inner.Ray.{termAlong, capAlong, addedAlong, sumAlong, Lies, Lasts, FallsFrom, Lower, OnWay, Aimed, SmallLine, SumLine, StaysBelow};
 
 // A line that begins at a value and falls by a slope a step, and for how many steps it holds.
@@ -113,12 +113,19 @@ pub fn lower_line(one: Line, other: Line) -> Line
 }
 
 // The most that another row may add, along the ray: fixed for BCL, falling with the row itself for RTA.
-pub fn cap_line(words: &[u32], bounds: &[u32], drops: &[u32], way: Way) -> Line
-    requires { ⌜ OnWay (sheetOf (now words)) (now bounds) (now drops) (way .row) (way .most) × Aimed (sheetOf (now words)) (now bounds) (now drops) (way .row) (way .window) (way .first) (way .fall) × (1 ≤ way .most) × Laid (now words) ⌝ }
-    ensures { λ r. ⌜ SmallLine (capAlong (methodOf (way .method)) (sheetOf (now (words .entry))) (now (bounds .entry)) (now (drops .entry)) (way .row)) (way .most) (r .value) (r .slope) (r .limit) ⌝ }
+pub fn cap_line(
+    costs: &[u32],
+    deadlines: &[u32],
+    periods: &[u32],
+    bounds: &[u32],
+    drops: &[u32],
+    way: Way,
+) -> Line
+    requires { ⌜ (let s = columns (now costs) (now deadlines) (now periods) in OnWay s (now bounds) (now drops) (way .row) (way .most) × Aimed s (now bounds) (now drops) (way .row) (way .window) (way .first) (way .fall) × (1 ≤ way .most) × Even (now costs) (now deadlines) (now periods)) ⌝ }
+    ensures { λ r. ⌜ SmallLine (capAlong (methodOf (way .method)) (columns (now (costs .entry)) (now (deadlines .entry)) (now (periods .entry))) (now (bounds .entry)) (now (drops .entry)) (way .row)) (way .most) (r .value) (r .slope) (r .limit) ⌝ }
 {
-    let own = 3 * (way.row as usize);
-    let cost = words[own];
+    let own = way.row as usize;
+    let cost = costs[own];
     if way.method == 0 {
         return Line {
             value: way.window - cost + 1,
@@ -135,25 +142,25 @@ pub fn cap_line(words: &[u32], bounds: &[u32], drops: &[u32], way: Way) -> Line
 
 // What another row adds along the ray: the least of its share, the cap and, for RTA, its work.
 pub fn term_line(
-    words: &[u32],
+    costs: &[u32],
+    deadlines: &[u32],
+    periods: &[u32],
     bounds: &[u32],
     drops: &[u32],
     other: u32,
     way: Way,
     cap: Line,
 ) -> Line
-    requires { ⌜ OnWay (sheetOf (now words)) (now bounds) (now drops) (way .row) (way .most) × Aimed (sheetOf (now words)) (now bounds) (now drops) (way .row) (way .window) (way .first) (way .fall) × (other < (sheetOf (now words)) .rows) × SmallLine (capAlong (methodOf (way .method)) (sheetOf (now words)) (now bounds) (now drops) (way .row)) (way .most) (cap .value) (cap .slope) (cap .limit) × Laid (now words) ⌝ }
-    ensures { λ r. ⌜ SmallLine (termAlong (methodOf (way .method)) (sheetOf (now (words .entry))) (now (bounds .entry)) (now (drops .entry)) (way .row) other) (way .most) (r .value) (r .slope) (r .limit) ⌝ }
+    requires { ⌜ (let s = columns (now costs) (now deadlines) (now periods) in OnWay s (now bounds) (now drops) (way .row) (way .most) × Aimed s (now bounds) (now drops) (way .row) (way .window) (way .first) (way .fall) × (other < s .rows) × SmallLine (capAlong (methodOf (way .method)) s (now bounds) (now drops) (way .row)) (way .most) (cap .value) (cap .slope) (cap .limit) × Even (now costs) (now deadlines) (now periods)) ⌝ }
+    ensures { λ r. ⌜ SmallLine (termAlong (methodOf (way .method)) (columns (now (costs .entry)) (now (deadlines .entry)) (now (periods .entry))) (now (bounds .entry)) (now (drops .entry)) (way .row) other) (way .most) (r .value) (r .slope) (r .limit) ⌝ }
 {
-    let at = 3 * (other as usize);
-    let deadline = at + 1;
-    let period = at + 2;
-    let bound = bounds[other as usize];
-    let drop = drops[other as usize];
+    let at = other as usize;
+    let bound = bounds[at];
+    let drop = drops[at];
     let share = share_line(
-        words[at],
-        words[deadline],
-        words[period],
+        costs[at],
+        deadlines[at],
+        periods[at],
         bound,
         way.window,
         drop,
@@ -163,24 +170,26 @@ pub fn term_line(
     if way.method == 0 {
         return capped;
     }
-    let time = way.first + bound - words[at];
+    let time = way.first + bound - costs[at];
     lower_line(
-        work_line(words[at], words[period], time, way.fall + drop, way.most),
+        work_line(costs[at], periods[at], time, way.fall + drop, way.most),
         capped,
     )
 }
 
 // The same for every other row; the row itself adds nothing.
 pub fn other_line(
-    words: &[u32],
+    costs: &[u32],
+    deadlines: &[u32],
+    periods: &[u32],
     bounds: &[u32],
     drops: &[u32],
     other: u32,
     way: Way,
     cap: Line,
 ) -> Line
-    requires { ⌜ OnWay (sheetOf (now words)) (now bounds) (now drops) (way .row) (way .most) × Aimed (sheetOf (now words)) (now bounds) (now drops) (way .row) (way .window) (way .first) (way .fall) × (other < (sheetOf (now words)) .rows) × SmallLine (capAlong (methodOf (way .method)) (sheetOf (now words)) (now bounds) (now drops) (way .row)) (way .most) (cap .value) (cap .slope) (cap .limit) × Laid (now words) ⌝ }
-    ensures { λ r. ⌜ SmallLine (addedAlong (methodOf (way .method)) (sheetOf (now (words .entry))) (now (bounds .entry)) (now (drops .entry)) (way .row) other) (way .most) (r .value) (r .slope) (r .limit) ⌝ }
+    requires { ⌜ (let s = columns (now costs) (now deadlines) (now periods) in OnWay s (now bounds) (now drops) (way .row) (way .most) × Aimed s (now bounds) (now drops) (way .row) (way .window) (way .first) (way .fall) × (other < s .rows) × SmallLine (capAlong (methodOf (way .method)) s (now bounds) (now drops) (way .row)) (way .most) (cap .value) (cap .slope) (cap .limit) × Even (now costs) (now deadlines) (now periods)) ⌝ }
+    ensures { λ r. ⌜ SmallLine (addedAlong (methodOf (way .method)) (columns (now (costs .entry)) (now (deadlines .entry)) (now (periods .entry))) (now (bounds .entry)) (now (drops .entry)) (way .row) other) (way .most) (r .value) (r .slope) (r .limit) ⌝ }
 {
     if other == way.row {
         return Line {
@@ -189,27 +198,29 @@ pub fn other_line(
             limit: way.most,
         };
     }
-    term_line(words, bounds, drops, other, way, cap)
+    term_line(costs, deadlines, periods, bounds, drops, other, way, cap)
 }
 
 // What all other rows add along the ray, under one line.
 pub fn sum_of_lines(
-    words: &[u32],
+    costs: &[u32],
+    deadlines: &[u32],
+    periods: &[u32],
     bounds: &[u32],
     drops: &[u32],
     count: u32,
     way: Way,
     cap: Line,
 ) -> Line
-    requires { ⌜ OnWay (sheetOf (now words)) (now bounds) (now drops) (way .row) (way .most) × Aimed (sheetOf (now words)) (now bounds) (now drops) (way .row) (way .window) (way .first) (way .fall) × (count ≡ (sheetOf (now words)) .rows) × SmallLine (capAlong (methodOf (way .method)) (sheetOf (now words)) (now bounds) (now drops) (way .row)) (way .most) (cap .value) (cap .slope) (cap .limit) × Laid (now words) ⌝ }
-    ensures { λ r. ⌜ SumLine (sumAlong (methodOf (way .method)) (sheetOf (now (words .entry))) (now (bounds .entry)) (now (drops .entry)) (way .row)) (way .most) (r .value) (r .slope) (r .limit) ⌝ }
+    requires { ⌜ (let s = columns (now costs) (now deadlines) (now periods) in OnWay s (now bounds) (now drops) (way .row) (way .most) × Aimed s (now bounds) (now drops) (way .row) (way .window) (way .first) (way .fall) × (count ≡ s .rows) × SmallLine (capAlong (methodOf (way .method)) s (now bounds) (now drops) (way .row)) (way .most) (cap .value) (cap .slope) (cap .limit) × Even (now costs) (now deadlines) (now periods)) ⌝ }
+    ensures { λ r. ⌜ SumLine (sumAlong (methodOf (way .method)) (columns (now (costs .entry)) (now (deadlines .entry)) (now (periods .entry))) (now (bounds .entry)) (now (drops .entry)) (way .row)) (way .most) (r .value) (r .slope) (r .limit) ⌝ }
 {
     let mut value = 0;
     let mut slope = 0;
     let mut limit = way.most;
     let mut other = 0;
     while other < count {
-        let line = other_line(words, bounds, drops, other, way, cap);
+        let line = other_line(costs, deadlines, periods, bounds, drops, other, way, cap);
         value += line.value;
         slope += line.slope;
         limit = lesser(limit, line.limit);

@@ -5,7 +5,6 @@ use response::answer_row;
 use response::bcl_row;
 use rows::Found;
 use rows::bound_or;
-use rows::deadline;
 use rows::found_of;
 ghost use mathlib.Core.Path.{_≡_};
 ghost use Prim.Native.Nat.{_+_, _≤_, _<_, _*_, _^_};
@@ -13,15 +12,18 @@ ghost use lib.ListN.{length};
 ghost use Rattle.laws.specs.Bits.{bit};
 ghost use Rattle.model.specs.Answer.{methodOf, answer};
 ghost use Rattle.model.specs.Refine.{round, sweep, marks};
-ghost use Rattle.rows.specs.Words.{sheetOf, foundOf, boundOr};
-ghost use Rattle.rows.specs.Inner.{Laid};
+ghost use Rattle.model.specs.Sheet.{columns};
+ghost use Rattle.rows.specs.Words.{foundOf, boundOr};
+ghost use Rattle.rows.specs.Inner.{Even};
 ghost use Rattle.refinement.specs.Question.{Ready};
 ghost use Rattle.refinement.specs.Inner.{isFound, Running, AfterPass};
 ghost use Rattle.refinement.specs.Refinement.{askOf};
 
 // One row's bound by either method, RTA's by jumps, and 0 where there is none, with space for the other rows and for what each of them takes.
 pub fn bound_quickly(
-    words: &[u32],
+    costs: &[u32],
+    deadlines: &[u32],
+    periods: &[u32],
     bounds: &[u32],
     row: u32,
     count: u32,
@@ -30,34 +32,60 @@ pub fn bound_quickly(
     others: &mut [u32],
     room: &mut [u32],
 ) -> u32
-    requires { ⌜ Ready (sheetOf (now words)) (now bounds) × (row < (sheetOf (now words)) .rows) × (count ≡ (sheetOf (now words)) .rows) × (1 ≤ processors) × (processors ≤ 64) × (length (now others) ≡ 320) × (length (now room) ≡ count) × Laid (now words) ⌝ }
-    ensures { λ r. ⌜ r ≡ boundOr (foundOf (answer (methodOf method) (sheetOf (now (words .entry))) processors row (now (bounds .entry)))) 0 ⌝ }
+    requires { ⌜ (let s = columns (now costs) (now deadlines) (now periods) in Ready s (now bounds) × (row < s .rows) × (count ≡ s .rows) × (1 ≤ processors) × (processors ≤ 64) × (length (now others) ≡ 320) × (length (now room) ≡ count) × Even (now costs) (now deadlines) (now periods)) ⌝ }
+    ensures { λ r. ⌜ r ≡ boundOr (foundOf (answer (methodOf method) (columns (now (costs .entry)) (now (deadlines .entry)) (now (periods .entry))) processors row (now (bounds .entry)))) 0 ⌝ }
 {
     if method == 0 {
-        fill_shares(words, bounds, row, count, room);
-        bound_or(bcl_row(words, bounds, room, row, count, processors), 0)
+        fill_shares(costs, deadlines, periods, bounds, row, count, room);
+        bound_or(
+            bcl_row(
+                costs,
+                deadlines,
+                periods,
+                bounds,
+                room,
+                row,
+                count,
+                processors,
+            ),
+            0,
+        )
     } else {
-        rta_quickly(words, bounds, row, count, processors, others, room)
+        rta_quickly(
+            costs,
+            deadlines,
+            periods,
+            bounds,
+            row,
+            count,
+            processors,
+            others,
+            room,
+        )
     }
 }
 
 // One row's answer by either method, RTA's by jumps.
 pub fn answer_quickly(
-    words: &[u32],
+    costs: &[u32],
+    deadlines: &[u32],
+    periods: &[u32],
     bounds: &[u32],
     row: u32,
     count: u32,
     processors: u32,
     method: u32,
 ) -> Found
-    requires { ⌜ Ready (sheetOf (now words)) (now bounds) × (row < (sheetOf (now words)) .rows) × (count ≡ (sheetOf (now words)) .rows) × (1 ≤ processors) × (processors ≤ 64) × Laid (now words) ⌝ }
-    ensures { λ r. ⌜ r ≡ foundOf (answer (methodOf method) (sheetOf (now (words .entry))) processors row (now (bounds .entry))) ⌝ }
+    requires { ⌜ (let s = columns (now costs) (now deadlines) (now periods) in Ready s (now bounds) × (row < s .rows) × (count ≡ s .rows) × (1 ≤ processors) × (processors ≤ 64) × Even (now costs) (now deadlines) (now periods)) ⌝ }
+    ensures { λ r. ⌜ r ≡ foundOf (answer (methodOf method) (columns (now (costs .entry)) (now (deadlines .entry)) (now (periods .entry))) processors row (now (bounds .entry))) ⌝ }
 {
     let mut others = [0u32; 320];
     let mut room = [0u32; 64];
     let end = count as usize;
     found_of(bound_quickly(
-        words,
+        costs,
+        deadlines,
+        periods,
         bounds,
         row,
         count,
@@ -81,23 +109,34 @@ pub fn with_mark(seen: u64, found: Found, row: u32) -> u64
 
 // A round: every row's turn from the bounds at its start, and the marks under them.
 pub fn fill_turns(
-    words: &[u32],
+    costs: &[u32],
+    deadlines: &[u32],
+    periods: &[u32],
     bounds: &[u32],
     processors: u32,
     method: u32,
     count: u32,
     next: &mut [u32],
 ) -> u64
-    requires { ⌜ Ready (sheetOf (now words)) (now bounds) × (count ≡ (sheetOf (now words)) .rows) × (1 ≤ processors) × (length (now next) ≡ count) × Laid (now words) ⌝ }
-    ensures seen { λ r. ⌜ r ≡ marks (sheetOf (now (words .entry))) (askOf (sheetOf (now (words .entry))) processors method) (now (bounds .entry)) ⌝ }
-    ensures turned { λ r. ⌜ now (next .exit) ≡ round (sheetOf (now (words .entry))) (askOf (sheetOf (now (words .entry))) processors method) (now (bounds .entry)) ⌝ }
+    requires { ⌜ (let s = columns (now costs) (now deadlines) (now periods) in Ready s (now bounds) × (count ≡ s .rows) × (1 ≤ processors) × (length (now next) ≡ count) × Even (now costs) (now deadlines) (now periods)) ⌝ }
+    ensures seen { λ r. ⌜ (let s = columns (now (costs .entry)) (now (deadlines .entry)) (now (periods .entry)) in r ≡ marks s (askOf s processors method) (now (bounds .entry))) ⌝ }
+    ensures turned { λ r. ⌜ (let s = columns (now (costs .entry)) (now (deadlines .entry)) (now (periods .entry)) in now (next .exit) ≡ round s (askOf s processors method) (now (bounds .entry))) ⌝ }
 {
     let mut seen = 0;
     let mut row = 0;
     while row < count {
-        let answer = answer_row(words, bounds, row, count, processors, method);
+        let answer = answer_row(
+            costs,
+            deadlines,
+            periods,
+            bounds,
+            row,
+            count,
+            processors,
+            method,
+        );
         seen = with_mark(seen, answer, row);
-        next[row as usize] = bound_or(answer, deadline(words, row));
+        next[row as usize] = bound_or(answer, deadlines[row as usize]);
         row += 1;
     }
     seen
@@ -112,7 +151,9 @@ pub struct Tally {
 // A sweep: rows 0 upward, each new bound used immediately, with space for what a turn works out of the other rows. Where each bound stood
 // before is written down, and nothing is claimed by it.
 pub fn sweep_rows(
-    words: &[u32],
+    costs: &[u32],
+    deadlines: &[u32],
+    periods: &[u32],
     bounds: &mut [u32],
     before: &mut [u32],
     processors: u32,
@@ -121,15 +162,17 @@ pub fn sweep_rows(
     others: &mut [u32],
     room: &mut [u32],
 ) -> Tally
-    requires { ⌜ Running (sheetOf (now words)) (now bounds) count processors method × (length (now others) ≡ 320) × (length (now room) ≡ count) × (length (now before) ≡ count) × Laid (now words) ⌝ }
-    ensures { λ r. ⌜ AfterPass (sheetOf (now (words .entry))) (askOf (sheetOf (now (words .entry))) processors method) (sweep (sheetOf (now (words .entry))) (askOf (sheetOf (now (words .entry))) processors method) ((sheetOf (now (words .entry))) .rows)) (now (bounds .entry)) (now (bounds .exit)) (r .moved) (r .seen) ⌝ }
+    requires { ⌜ (let s = columns (now costs) (now deadlines) (now periods) in Running s (now bounds) count processors method × (length (now others) ≡ 320) × (length (now room) ≡ count) × (length (now before) ≡ count) × Even (now costs) (now deadlines) (now periods)) ⌝ }
+    ensures { λ r. ⌜ (let s = columns (now (costs .entry)) (now (deadlines .entry)) (now (periods .entry)) in AfterPass s (askOf s processors method) (sweep s (askOf s processors method) (s .rows)) (now (bounds .entry)) (now (bounds .exit)) (r .moved) (r .seen)) ⌝ }
 {
     let mut moved = false;
     let mut seen = 0;
     let mut row = 0;
     while row < count {
         let found = found_of(bound_quickly(
-            words,
+            costs,
+            deadlines,
+            periods,
             bounds,
             row,
             count,
@@ -138,7 +181,7 @@ pub fn sweep_rows(
             others,
             room,
         ));
-        let bound = bound_or(found, deadline(words, row));
+        let bound = bound_or(found, deadlines[row as usize]);
         seen = with_mark(seen, found, row);
         let old = bounds[row as usize];
         before[row as usize] = old;

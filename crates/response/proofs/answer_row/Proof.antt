@@ -9,16 +9,16 @@ use Rattle.response.proofs.answer_row.Statement.{statement}
 use Rattle.response.proofs.answer_row.Tie as tie
 
 array-borrow-prefix-taken : tie.Need-array-borrow-prefix-taken
-array-borrow-prefix-taken c = let p = c .before .before in omega (arith, few-rows _ (p .pre .0 .rows))
+array-borrow-prefix-taken c = let p = c .before .before .before .before in omega (arith, few-rows _ (p .pre .0 .rows))
 
 slice-aggregate-answer-in : tie.Need-slice-aggregate-answer-in
 slice-aggregate-answer-in c =
-    let p = c .before .before .before in
+    let p = c .before .before .before .before .before in
     sym (length-take-le (p .args .count) (replicate 64 0) (omega (arith, p .pre .2, few-rows _ (p .pre .0 .rows))))
 
 answer-in-requires : tie.Need-answer-in-requires
 answer-in-requires c κs =
-    let p = c .before .before .before in (
+    let p = c .before .before .before .before .before in (
       p .pre .0,
       p .pre .1,
       p .pre .2,

@@ -5,9 +5,8 @@ use Prim.Native.Nat.{min}
 use lib.ListN.{getD}
 use denote.Ref.{now}
 use Rattle.model.proofs.Sheet.{row-sized}
-use Rattle.model.specs.Sheet.{triples}
+use Rattle.model.specs.Sheet.{columns}
 use Rattle.model.specs.Interference.{work, workOf}
-use Rattle.rows.specs.Words.{sheetOf}
 use Rattle.refinement.specs.Inner.{termOf}
 use Rattle.refinement.proofs.Limits.{work-positive}
 use Rattle.refinement.proofs.Sizes.{sizes}
@@ -27,18 +26,12 @@ lesser-requires c κs = search needs
 returns : tie.Need-returns
 unfolding termOf workOf
 returns c =
-    let p = c .before .before .before .before .before .before in
-    let s = sheetOf (now (p .args .words)) in
+    let p = c .before .before .before .before .before .before .before .before in
+    let s = columns (now (p .args .costs)) (now (p .args .deadlines)) (now (p .args .periods)) in
     let other = p .args .other in
     let some-work = work-positive (s .cost other) (s .period other) (getD (now (p .args .bounds)) other 0) (p .args .x)
     (row-sized _ (p .pre .0 .rows) other (p .pre .1) .positive) (p .pre .0 .in-range other (p .pre .1) .0) (p .pre .3) in
     omega arith
-
-mul-at : tie.Need-mul-at
-mul-at c = search needs
-
-add-period : tie.Need-add-period
-add-period c = search needs
 
 mul-time : tie.Need-mul-time
 mul-time c = search needs
@@ -47,8 +40,8 @@ shared-slice-read-time : tie.Need-shared-slice-read-time
 shared-slice-read-time c = search needs
 
 add-time : tie.Need-add-time
-unfolding sheetOf triples
-add-time c = let p = c .before .before .before .before .before .before .before in let known = sizes _ _ (p .pre .0) (p .args .other) (p .pre .1) in omega (arith, c .before .before .before .before .before .before .before .pre .4)
+unfolding columns
+add-time c = let p = c .before .before .before .before .before .before .before .before .before in let known = sizes _ _ (p .pre .0) (p .args .other) (p .pre .1) in omega (arith, c .before .before .before .before .before .before .before .before .before .pre .4)
 
 mul-time-2 : tie.Need-mul-time-2
 mul-time-2 c = search needs
@@ -57,8 +50,8 @@ shared-slice-read-time-2 : tie.Need-shared-slice-read-time-2
 shared-slice-read-time-2 c = search needs
 
 sub-time : tie.Need-sub-time
-unfolding sheetOf triples
-sub-time c = let p = c .before .before .before .before .before .before .before .before in let known = sizes _ _ (p .pre .0) (p .args .other) (p .pre .1) in omega arith
+unfolding columns
+sub-time c = let p = c .before .before .before .before .before .before .before .before .before .before in let known = sizes _ _ (p .pre .0) (p .args .other) (p .pre .1) in omega arith
 
 mul-work-in-time : tie.Need-mul-work-in-time
 mul-work-in-time c = search needs
@@ -73,9 +66,9 @@ shared-slice-read-work-in-time-2 : tie.Need-shared-slice-read-work-in-time-2
 shared-slice-read-work-in-time-2 c = search needs
 
 work-in-time-requires : tie.Need-work-in-time-requires
-unfolding sheetOf triples
+unfolding columns
 work-in-time-requires c κs =
-    let p = c .before .before .before .before .before .before .before .before .before .before in
+    let p = c .before .before .before .before .before .before .before .before .before .before .before .before in
     let known = sizes _ _ (p .pre .0) (p .args .other) (p .pre .1) in
     omega (arith, p .pre .4)
 
@@ -83,7 +76,7 @@ lesser-requires-2 : tie.Need-lesser-requires-2
 lesser-requires-2 c κs = search needs
 
 returns-2 : tie.Need-returns-2
-unfolding termOf workOf work sheetOf triples
+unfolding termOf workOf work columns
 returns-2 c =
     c .lesser2 .ensures
     ∙ ap₂ min (c .before .work-in-time .ensures) (c .before .before .before .before .before .before .before .lesser .ensures)
@@ -96,8 +89,6 @@ term-spec =
     shared-slice-read-lesser
     lesser-requires
     returns
-    mul-at
-    add-period
     mul-time
     shared-slice-read-time
     add-time
