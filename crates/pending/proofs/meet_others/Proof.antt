@@ -2,16 +2,16 @@
 use native.Mathlib.Omega.{arith}
 use mathlib.Core.Path.{_∙_, sym}
 use denote.Ref.{now}
+use Rattle.model.specs.Sheet.{columns}
 use Rattle.model.proofs.Sheet.{row-sized, few-rows}
 use Rattle.laws.specs.Sum.{total}
-use Rattle.rows.specs.Words.{sheetOf}
 use Rattle.refinement.proofs.Kept.{met-all}
 use Rattle.pending.proofs.meet_others.Statement.{statement}
 use Rattle.pending.proofs.meet_others.Tie as tie
 
 meet-requires : tie.Need-meet-requires
 meet-requires c κs =
-    let p = c .before .before .before .before in
+    let p = c .before .before .before .before .before .before in
     let sized = row-sized _ (p .pre .0 .rows) (p .args .row) (p .pre .1) in (
       p .pre .0,
       omega arith,
@@ -22,11 +22,11 @@ meet-requires c κs =
     )
 
 add-meet : tie.Need-add-meet
-add-meet c = omega (arith, c .before .before .before .before .before .before .before .pre .1, few-rows _ (c .before .before .before .before .before .before .before .pre .0 .rows))
+add-meet c = omega (arith, c .before .before .before .before .before .before .before .before .before .pre .1, few-rows _ (c .before .before .before .before .before .before .before .before .before .pre .0 .rows))
 
 meet-requires-2 : tie.Need-meet-requires-2
 meet-requires-2 c κs =
-    let p = c .before .before .before .before .before .before .before .before in
+    let p = c .before .before .before .before .before .before .before .before .before .before in
     let ahead = c .before .before .before .meet .ensures .0 in
     let sized = row-sized _ (p .pre .0 .rows) (p .args .row) (p .pre .1) in (
       p .pre .0,
@@ -38,13 +38,13 @@ meet-requires-2 c κs =
     )
 
 same-length : tie.Need-same-length
-same-length c = c .before .before .meet2 .ensures .0 .rows .sized ∙ sym (c .before .before .before .before .before .before .before .before .before .before .before .pre .4)
+same-length c = c .before .before .meet2 .ensures .0 .rows .sized ∙ sym (c .before .before .before .before .before .before .before .before .before .before .before .before .before .pre .4)
 
 returns : tie.Need-returns
 unfolding total
 returns c =
-    let p = c .before .before .before .before .before .before .before .before .before .before .before in
-    let s = sheetOf (now (p .args .words)) in
+    let p = c .before .before .before .before .before .before .before .before .before .before .before .before .before in
+    let s = columns (now (p .args .costs)) (now (p .args .deadlines)) (now (p .args .periods)) in
     let sized = row-sized _ (p .pre .0 .rows) (p .args .row) (p .pre .1) in
     let first = c .before .before .before .before .before .before .meet .ensures in
     let second = c .before .before .meet2 .ensures in

@@ -5,9 +5,8 @@ use mathlib.Core.Path.{refl}
 use Prim.Native.Nat.{ℕ, _*_, _≤_}
 use lib.ListN.{getD}
 use native.Mathlib.Nat.{mul-le-mul, le-refl}
-use Rattle.model.specs.Sheet.{triples}
+use Rattle.model.specs.Sheet.{columns}
 use Rattle.model.proofs.Sheet.{row-sized}
-use Rattle.rows.specs.Words.{sheetOf}
 use Rattle.refinement.proofs.Ways.{cap-level, cap-with-row}
 use borrow.Author.Needs.{needs}
 use Rattle.slopes.proofs.cap_line.Statement.{statement}
@@ -15,9 +14,6 @@ use Rattle.slopes.proofs.cap_line.Tie as tie
 
 cast-own : tie.Need-cast-own
 cast-own c = search needs
-
-mul-own : tie.Need-mul-own
-mul-own c = search needs
 
 mul-cost : tie.Need-mul-cost
 mul-cost c = search needs
@@ -33,7 +29,7 @@ record Sizes (cost window first : ℕ) : Type 0 where
   small : window ≤ 1_000_000
   by-limit : first ≤ 1_000_000
 
-sizes : (s : tie.Start) → Sizes ((sheetOf (now (s .args .words))) .cost (s .args .way .row)) (s .args .way .window) (s .args .way .first)
+sizes : (s : tie.Start) → Sizes ((columns (now (s .args .costs)) (now (s .args .deadlines)) (now (s .args .periods))) .cost (s .args .way .row)) (s .args .way .window) (s .args .way .first)
 sizes s =
     let row = s .args .way .row in
     let way = s .pre .0 in
@@ -44,17 +40,19 @@ sizes s =
     record { positive = omega arith; by-window = omega (arith, aim .by-deadline); from-cost = omega (arith, way .own, aim .by-bound, aim .by-drop); small = omega (arith, aim .by-deadline); by-limit = omega (arith, aim .by-bound) }
 
 sub-t11 : tie.Need-sub-t11
-unfolding sheetOf triples
-sub-t11 c = let p = c .before .before .before .before .before in let known = sizes p in omega arith
+unfolding columns
+sub-t11 c = let p = c .before .before .before .before .before .before .before in let known = sizes p in omega arith
 
-add-t12 : tie.Need-add-t12
-unfolding sheetOf triples
-add-t12 c = let p = c .before .before .before .before .before in let known = sizes p in omega arith
+sub-t13 : tie.Need-sub-t13
+sub-t13 c = search needs
+
+add-t14 : tie.Need-add-t14
+add-t14 c = search needs
 
 returns : tie.Need-returns
-unfolding sheetOf triples
+unfolding columns
 returns c =
-    let p = c .before .before .before .before .before in
+    let p = c .before .before .before .before .before .before .before in
     let way = p .args .way in
     let known = sizes p in
     record {
@@ -62,18 +60,13 @@ returns c =
       lies = cap-level _ _ _ _ _ (p .pre .0) (way .method) (way .window) (way .first) (way .fall) _ (p .pre .1) refl (c .before .if1 .taken);
     }
 
-sub-t9 : tie.Need-sub-t9
-unfolding sheetOf triples
-sub-t9 c = let p = c .before .before .before .before .before in let known = sizes p in omega arith
-
-add-t13 : tie.Need-add-t13
-unfolding sheetOf triples
-add-t13 c = let p = c .before .before .before .before .before in let known = sizes p in omega arith
+add-t15 : tie.Need-add-t15
+add-t15 c = search needs
 
 returns-2 : tie.Need-returns-2
-unfolding sheetOf triples
+unfolding columns
 returns-2 c =
-    let p = c .before .before .before .before .before in
+    let p = c .before .before .before .before .before .before .before in
     let way = p .args .way in
     let known = sizes p in
     record {
@@ -86,12 +79,11 @@ cap-line-spec =
     tie.close
     (tie.spec
     cast-own
-    mul-own
     mul-cost
     shared-slice-read-cost
-    sub-t11
-    add-t12
+    sub-t13
+    add-t14
     returns
-    sub-t9
-    add-t13
+    sub-t11
+    add-t15
     returns-2)

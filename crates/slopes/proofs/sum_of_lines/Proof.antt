@@ -4,9 +4,9 @@ use native.Mathlib.Omega.{arith}
 use mathlib.Core.Path.{_≡_}
 use denote.Ref.{now}
 use Prim.Native.Nat.{_-_, _≤_}
+use Rattle.model.specs.Sheet.{columns}
 use Rattle.model.proofs.Sheet.{few-rows}
 use Rattle.model.specs.Answer.{methodOf}
-use Rattle.rows.specs.Words.{sheetOf}
 use Rattle.refinement.specs.Inner.Ray.{addedAlong}
 use Rattle.refinement.proofs.Lines.{Summed, summed-none, summed-more}
 use Rattle.refinement.proofs.Ways.{summed-all}
@@ -14,26 +14,26 @@ use Rattle.slopes.proofs.sum_of_lines.Statement.{statement}
 use Rattle.slopes.proofs.sum_of_lines.Tie as tie
 
 abbrev Inv-loop : tie.InvT-loop
-Inv-loop words bounds drops count way cap value₀ slope₀ limit₀ other₀ value slope limit other =
-    Summed (addedAlong (methodOf (way .method)) (sheetOf words) bounds drops (way .row)) (way .most) other value slope limit × (other ≤ count)
+Inv-loop costs deadlines periods bounds drops count way cap value₀ slope₀ limit₀ other₀ value slope limit other =
+    Summed (addedAlong (methodOf (way .method)) (columns costs deadlines periods) bounds drops (way .row)) (way .most) other value slope limit × (other ≤ count)
 
 abbrev μ-loop : tie.MeasureT-loop
-μ-loop words bounds drops count way cap value₀ slope₀ limit₀ other₀ value slope limit other = count - other
+μ-loop costs deadlines periods bounds drops count way cap value₀ slope₀ limit₀ other₀ value slope limit other = count - other
 
 loop-holds : tie.Need-loop-holds Inv-loop μ-loop
 loop-holds c = (summed-none _ _, omega arith)
 
 other-line-requires : tie.Need-other-line-requires Inv-loop μ-loop
-other-line-requires c κs = let p = c .before .before .before .before .before in (p .pre .0, p .pre .1, omega (arith, p .pre .2), p .pre .3, p .pre .4)
+other-line-requires c κs = let p = c .before .before .before .before .before .before .before in (p .pre .0, p .pre .1, omega (arith, p .pre .2), p .pre .3, p .pre .4)
 
 add-value : tie.Need-add-value Inv-loop μ-loop
 add-value c =
-    let p = c .before .before .before .before .before .before .before in
+    let p = c .before .before .before .before .before .before .before .before .before in
     omega (arith, few-rows _ (p .pre .0 .ready .rows), p .pre .2, c .before .before .before .loop .inv .0 .small, c .before .other-line .ensures .small)
 
 add-slope : tie.Need-add-slope Inv-loop μ-loop
 add-slope c =
-    let p = c .before .before .before .before .before .before .before .before in
+    let p = c .before .before .before .before .before .before .before .before .before .before in
     omega (arith, few-rows _ (p .pre .0 .ready .rows), p .pre .2, c .before .before .before .before .loop .inv .0 .gentle, c .before .before .other-line .ensures .lies .gentle)
 
 lesser-requires : tie.Need-lesser-requires Inv-loop μ-loop
@@ -54,10 +54,10 @@ loop-again c =
 
 returns : tie.Need-returns Inv-loop μ-loop
 returns c =
-    let p = c .before .before .before .before .before in
+    let p = c .before .before .before .before .before .before .before in
     let q = c .before .loop in
     let words = now (p .args .words) in
-    let all : q .other ≡ (sheetOf words) .rows = omega (arith, q .inv .1, p .pre .2) in
+    let all : q .other ≡ (columns costs deadlines periods) .rows = omega (arith, q .inv .1, p .pre .2) in
     summed-all _ _ _ _ _ _ (q .other) _ _ _ all (omega (arith, few-rows _ (p .pre .0 .ready .rows), q .inv .1, p .pre .2)) (q .inv .0)
 
 pub sum-of-lines-spec : {M : Type 1} → statement M

@@ -5,21 +5,11 @@ use Prim.Native.Nat.{ℕ, _≤_}
 use lib.ListN.{getD}
 use native.Mathlib.Nat.{le-trans}
 use Rattle.model.proofs.Sheet.{row-sized}
-use Rattle.model.specs.Sheet.{triples}
-use Rattle.rows.specs.Words.{sheetOf}
+use Rattle.model.specs.Sheet.{columns}
 use Rattle.refinement.proofs.Ways.{time-room, bcl-lies, rta-lies}
 use borrow.Author.Needs.{needs}
 use Rattle.slopes.proofs.term_line.Statement.{statement}
 use Rattle.slopes.proofs.term_line.Tie as tie
-
-mul-at : tie.Need-mul-at
-mul-at c = search needs
-
-add-deadline : tie.Need-add-deadline
-add-deadline c = search needs
-
-add-period : tie.Need-add-period
-add-period c = search needs
 
 mul-bound : tie.Need-mul-bound
 mul-bound c = search needs
@@ -64,7 +54,7 @@ record Sizes (cost deadline period bound drop window first fall : ℕ) : Type 0 
   small-first : first ≤ 1_000_000
   small-fall : fall ≤ 1_000_000
 
-sizes : (s : tie.Start) → let sheet = sheetOf (now (s .args .words)) in
+sizes : (s : tie.Start) → let sheet = columns (now (s .args .costs)) (now (s .args .deadlines)) (now (s .args .periods)) in
     let other = s .args .other in
     let way = s .args .way in
     Sizes (sheet .cost other) (sheet .deadline other) (sheet .period other) (getD (now (s .args .bounds)) other 0)
@@ -92,16 +82,16 @@ sizes s =
     }
 
 share-line-requires : tie.Need-share-line-requires
-unfolding sheetOf triples
+unfolding columns
 share-line-requires c κs = let known = sizes (c .before .before .before .before .before .before .before .before) in omega arith
 
 lower-line-requires : tie.Need-lower-line-requires
 lower-line-requires c κs = search needs
 
 returns : tie.Need-returns
-unfolding sheetOf triples
+unfolding columns
 returns c =
-    let p = c .before .before .before .before .before .before .before .before .before .before .before .before in
+    let p = c .before .before .before .before .before .before .before .before .before .before .before .before .before .before in
     let way = p .args .way in
     record {
       small = le-trans (c .before .before .lower-line .ensures .second) (p .pre .3 .small);
@@ -111,7 +101,7 @@ returns c =
     }
 
 add-time : tie.Need-add-time
-unfolding sheetOf triples
+unfolding columns
 add-time c = let known = sizes (c .before .before .before .before .before .before .before .before .before .before .before .before .before) in omega arith
 
 mul-time : tie.Need-mul-time
@@ -121,7 +111,7 @@ shared-slice-read-time : tie.Need-shared-slice-read-time
 shared-slice-read-time c = search needs
 
 sub-time : tie.Need-sub-time
-unfolding sheetOf triples
+unfolding columns
 sub-time c = let known = sizes (c .before .before .before .before .before .before .before .before .before .before .before .before .before .before) in omega arith
 
 mul-work-line : tie.Need-mul-work-line
@@ -137,13 +127,13 @@ shared-slice-read-work-line-2 : tie.Need-shared-slice-read-work-line-2
 shared-slice-read-work-line-2 c = search needs
 
 add-work-line : tie.Need-add-work-line
-unfolding sheetOf triples
+unfolding columns
 add-work-line c = let known = sizes (c .before .before .before .before .before .before .before .before .before .before .before .before .before .before .before .before .before) in omega arith
 
 work-line-requires : tie.Need-work-line-requires
-unfolding sheetOf triples
+unfolding columns
 work-line-requires c κs =
-    let p = c .before .before .before .before .before .before .before .before .before .before .before .before .before .before .before .before .before in
+    let p = c .before .before .before .before .before .before .before .before .before .before .before .before .before .before .before .before .before .before .before in
     let way = p .args .way in
     let known = sizes p in (
       omega arith,
@@ -158,9 +148,9 @@ lower-line-requires-2 : tie.Need-lower-line-requires-2
 lower-line-requires-2 c κs = search needs
 
 returns-2 : tie.Need-returns-2
-unfolding sheetOf triples
+unfolding columns
 returns-2 c =
-    let p = c .before .before .before .before .before .before .before .before .before .before .before .before .before .before .before .before .before .before .before in
+    let p = c .before .before .before .before .before .before .before .before .before .before .before .before .before .before .before .before .before .before .before .before .before in
     let way = p .args .way in
     let capped = c .before .before .before .before .before .before .before .before .before .lower-line .ensures in
     record {
@@ -175,9 +165,6 @@ pub term-line-spec : {M : Type 1} → statement M
 term-line-spec =
     tie.close
     (tie.spec
-    mul-at
-    add-deadline
-    add-period
     mul-bound
     shared-slice-read-bound
     mul-drop
