@@ -39,20 +39,18 @@ sizes s =
     let steps : 1 * getD (now (s .args .drops)) row 0 ≤ s .args .way .most * getD (now (s .args .drops)) row 0 = mul-le-mul (s .pre .2) (le-refl _) in
     record { positive = omega arith; by-window = omega (arith, aim .by-deadline); from-cost = omega (arith, way .own, aim .by-bound, aim .by-drop); small = omega (arith, aim .by-deadline); by-limit = omega (arith, aim .by-bound) }
 
-sub-t11 : tie.Need-sub-t11
-unfolding columns
-sub-t11 c = let p = c .before .before .before .before .before .before .before in let known = sizes p in omega arith
-
 sub-t13 : tie.Need-sub-t13
-sub-t13 c = search needs
+unfolding columns
+sub-t13 c = let known = sizes (c .before .before .before .before .before) in omega arith
 
 add-t14 : tie.Need-add-t14
-add-t14 c = search needs
+unfolding columns
+add-t14 c = let known = sizes (c .before .before .before .before .before) in omega arith
 
 returns : tie.Need-returns
 unfolding columns
 returns c =
-    let p = c .before .before .before .before .before .before .before in
+    let p = c .before .before .before .before .before in
     let way = p .args .way in
     let known = sizes p in
     record {
@@ -60,13 +58,18 @@ returns c =
       lies = cap-level _ _ _ _ _ (p .pre .0) (way .method) (way .window) (way .first) (way .fall) _ (p .pre .1) refl (c .before .if1 .taken);
     }
 
+sub-t11 : tie.Need-sub-t11
+unfolding columns
+sub-t11 c = let known = sizes (c .before .before .before .before .before) in omega arith
+
 add-t15 : tie.Need-add-t15
-add-t15 c = search needs
+unfolding columns
+add-t15 c = let known = sizes (c .before .before .before .before .before) in omega arith
 
 returns-2 : tie.Need-returns-2
 unfolding columns
 returns-2 c =
-    let p = c .before .before .before .before .before .before .before in
+    let p = c .before .before .before .before .before in
     let way = p .args .way in
     let known = sizes p in
     record {

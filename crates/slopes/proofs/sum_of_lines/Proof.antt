@@ -56,8 +56,7 @@ returns : tie.Need-returns Inv-loop μ-loop
 returns c =
     let p = c .before .before .before .before .before .before .before in
     let q = c .before .loop in
-    let words = now (p .args .words) in
-    let all : q .other ≡ (columns costs deadlines periods) .rows = omega (arith, q .inv .1, p .pre .2) in
+    let all : q .other ≡ (columns (now (p .args .costs)) (now (p .args .deadlines)) (now (p .args .periods))) .rows = omega (arith, q .inv .1, p .pre .2) in
     summed-all _ _ _ _ _ _ (q .other) _ _ _ all (omega (arith, few-rows _ (p .pre .0 .ready .rows), q .inv .1, p .pre .2)) (q .inv .0)
 
 pub sum-of-lines-spec : {M : Type 1} → statement M

@@ -83,7 +83,7 @@ sizes s =
 
 share-line-requires : tie.Need-share-line-requires
 unfolding columns
-share-line-requires c κs = let known = sizes (c .before .before .before .before .before .before .before .before) in omega arith
+share-line-requires c κs = let known = sizes (c .before .before .before .before .before .before .before .before .before .before) in omega arith
 
 lower-line-requires : tie.Need-lower-line-requires
 lower-line-requires c κs = search needs
@@ -102,7 +102,7 @@ returns c =
 
 add-time : tie.Need-add-time
 unfolding columns
-add-time c = let known = sizes (c .before .before .before .before .before .before .before .before .before .before .before .before .before) in omega arith
+add-time c = let known = sizes (c .before .before .before .before .before .before .before .before .before .before .before .before .before .before .before) in omega arith
 
 mul-time : tie.Need-mul-time
 mul-time c = search needs
@@ -112,7 +112,7 @@ shared-slice-read-time c = search needs
 
 sub-time : tie.Need-sub-time
 unfolding columns
-sub-time c = let known = sizes (c .before .before .before .before .before .before .before .before .before .before .before .before .before .before) in omega arith
+sub-time c = let known = sizes (c .before .before .before .before .before .before .before .before .before .before .before .before .before .before .before .before) in omega arith
 
 mul-work-line : tie.Need-mul-work-line
 mul-work-line c = search needs
@@ -128,7 +128,7 @@ shared-slice-read-work-line-2 c = search needs
 
 add-work-line : tie.Need-add-work-line
 unfolding columns
-add-work-line c = let known = sizes (c .before .before .before .before .before .before .before .before .before .before .before .before .before .before .before .before .before) in omega arith
+add-work-line c = let known = sizes (c .before .before .before .before .before .before .before .before .before .before .before .before .before .before .before .before .before .before .before) in omega arith
 
 work-line-requires : tie.Need-work-line-requires
 unfolding columns
