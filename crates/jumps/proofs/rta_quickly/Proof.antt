@@ -2,19 +2,20 @@
 -- the deadline falls.
 use borrow.Author.Needs.{needs}
 use native.Mathlib.Omega.{arith}
-use mathlib.Core.Path.{_≡_, _∙_, sym, ap}
+use mathlib.Core.Path.{_≡_, _∙_, sym, ap, refl}
 use mathlib.Core.Option.{Option}
 use mathlib.Core.List.{List}
 use Prim.Native.Nat.{ℕ, _+_, _-_, _≤_, _<_}
 use native.Mathlib.Nat.{le-antisymm}
-use lib.ListN.{length}
+use lib.ListN.{length, getD}
 use denote.Ref.{now}
+use Rattle.model.specs.Sheet.{columns}
 use Rattle.model.proofs.Sheet.{row-sized}
 use Rattle.laws.proofs.Climb.{Climbed, climbed-first}
 use Rattle.model.specs.Interference.{rtaRight}
 use Rattle.model.proofs.Interference.{rtaRight-from-cost}
 use Rattle.model.proofs.Answer.{climb-found, climb-none}
-use Rattle.rows.specs.Words.{sheetOf, foundOf, boundOr}
+use Rattle.rows.specs.Words.{foundOf, boundOr}
 use Rattle.refinement.specs.Inner.Kept.{Kept, Tried, keptSum, Met}
 use Rattle.refinement.proofs.Kept.{met-kept}
 use Rattle.refinement.proofs.Exclusion.{right-stands, climb-on}
@@ -22,30 +23,38 @@ use Rattle.jumps.proofs.rta_quickly.Statement.{statement}
 use Rattle.jumps.proofs.rta_quickly.Tie as tie
 
 abbrev Inv-loop : tie.InvT-loop
-Inv-loop words bounds row count processors others₀ room₀ own top rows₀ x₀ step₀ others room rows x step =
-    Climbed (rtaRight (sheetOf words) processors row bounds) ((sheetOf words) .cost row) x
-    × (x ≤ (sheetOf words) .deadline row)
+Inv-loop costs deadlines periods bounds row count processors others₀ room₀ own top rows₀ x₀ step₀ others room rows x step =
+    Climbed (rtaRight (columns costs deadlines periods) processors row bounds) ((columns costs deadlines periods) .cost row) x
+    × (x ≤ (columns costs deadlines periods) .deadline row)
     × (length room ≡ count)
     × (step < x)
-    × Met (sheetOf words) bounds others row (rows .left) (rows .settled) x
+    × Met (columns costs deadlines periods) bounds others row (rows .left) (rows .settled) x
 
 abbrev μ-loop : tie.MeasureT-loop
-μ-loop words bounds row count processors others₀ room₀ own top rows₀ x₀ step₀ others room rows x step = (sheetOf words) .deadline row - x
+μ-loop costs deadlines periods bounds row count processors others₀ room₀ own top rows₀ x₀ step₀ others room rows x step = (columns costs deadlines periods) .deadline row - x
 
-cost-requires : tie.Need-cost-requires Inv-loop μ-loop
-cost-requires c κs = search needs
+mul-own : tie.Need-mul-own Inv-loop μ-loop
+mul-own c = search needs
 
-deadline-requires : tie.Need-deadline-requires Inv-loop μ-loop
-deadline-requires c κs = search needs
+shared-slice-read-own : tie.Need-shared-slice-read-own Inv-loop μ-loop
+shared-slice-read-own c = search needs
+
+mul-top : tie.Need-mul-top Inv-loop μ-loop
+mul-top c = search needs
+
+shared-slice-read-top : tie.Need-shared-slice-read-top Inv-loop μ-loop
+shared-slice-read-top c = search needs
 
 meet-others-requires : tie.Need-meet-others-requires Inv-loop μ-loop
-meet-others-requires c κs = let p = c .before .before .before .before .before .before .before in (p .pre .0, p .pre .1, p .pre .2, c .before .deadline .ensures, p .pre .5, p .pre .7)
+unfolding columns
+meet-others-requires c κs = let p = c .before .before .before .before .before .before .before .before .before in (p .pre .0, p .pre .1, p .pre .2, refl, p .pre .5, p .pre .7)
 
 loop-holds : tie.Need-loop-holds Inv-loop μ-loop
+unfolding columns
 loop-holds c =
-    let p = c .before .before .before .before .before .before .before .before .before .before in
+    let p = c .before .before .before .before .before .before .before .before .before .before .before .before in
     let sized = row-sized _ (p .pre .0 .rows) (p .args .row) (p .pre .1) in
-    rw (c .before .before .before .before .before .cost .ensures) (
+    (
       climbed-first _ _ (rtaRight-from-cost _ _ _ _ _),
       sized .by-deadline,
       p .pre .6,
@@ -54,109 +63,113 @@ loop-holds c =
     )
 
 -- A number that the climb stands at is one to try.
-tried : (c : tie.After-deadline Inv-loop μ-loop) → let p = c .before .before .before .before .before .before in
-    let s = sheetOf (now (p .args .words)) in
-    (x : ℕ) → s .cost (p .args .row) ≤ x → x ≤ s .deadline (p .args .row) → Tried (c .before .cost .result) (c .deadline .result) x
-tried c x from by =
-    let p = c .before .before .before .before .before .before in
+tried : (p : tie.Start Inv-loop μ-loop) → let s = columns (now (p .args .costs)) (now (p .args .deadlines)) (now (p .args .periods)) in
+    (x : ℕ) → s .cost (p .args .row) ≤ x → x ≤ s .deadline (p .args .row) → Tried (s .cost (p .args .row)) (s .deadline (p .args .row)) x
+tried p x from by =
     let sized = row-sized _ (p .pre .0 .rows) (p .args .row) (p .pre .1) in
-    let own = c .before .cost .ensures in
-    let top = c .deadline .ensures in
-    record { some-cost = omega (arith, sized .positive); from-cost = omega arith; by-deadline = omega arith; small = omega arith }
+    record { some-cost = sized .positive; from-cost = from; by-deadline = by; small = omega (arith, sized .within-period, sized .small) }
 
 add-step : tie.Need-add-step Inv-loop μ-loop
-add-step c = let q = c .loop in let here = tried (c .before .before .before .before .before) (q .x) (q .inv .0 .from) (q .inv .1) in omega (arith, here .by-deadline, here .small, q .inv .3)
+unfolding columns
+add-step c = let q = c .loop in let here = tried (c .before .before .before .before .before .before .before .before .before .before .before .before .before) (q .x) (q .inv .0 .from) (q .inv .1) in omega (arith, here .by-deadline, here .small, q .inv .3)
 
 -- Rows that add what the rows of the loop add are met at every number above X.
-met-by : (c : tie.At-loop Inv-loop μ-loop) → let p = c .before .before .before .before .before .before .before .before .before .before .before in
+met-by : (c : tie.At-loop Inv-loop μ-loop) → let p = c .before .before .before .before .before .before .before .before .before .before .before .before .before in
     let q = c .loop in
-    let own = c .before .before .before .before .before .before .cost .result in
+    let own = getD (now (p .args .costs)) (p .args .row) 0 in
     (l : List ℕ) (stay full y : ℕ) → q .x ≤ y → Kept l stay full × (stay ≤ q .rows .left)
     → ((d : ℕ) → keptSum l stay full (q .x + d) (q .x - own + 1 + d) ≡ keptSum (q .others) (q .rows .left) (q .rows .settled) (q .x + d) (q .x - own + 1 + d))
-    → Met (sheetOf (now (p .args .words))) (now (p .args .bounds)) l (p .args .row) stay full y
+    → Met (columns (now (p .args .costs)) (now (p .args .deadlines)) (now (p .args .periods))) (now (p .args .bounds)) l (p .args .row) stay full y
+unfolding columns
 met-by c l stay full y later kept same =
     let q = c .loop in
-    met-kept _ _ _ l _ _ _ stay full (c .before .before .before .before .before .before .cost .result) (q .x) y (q .inv .4) (c .before .before .before .before .before .before .cost .ensures) (omega (arith, c .before .before .before .before .before .before .cost .ensures, q .inv .0 .from)) later kept same
+    met-kept _ _ _ l _ _ _ stay full _ (q .x) y (q .inv .4) refl (omega (arith, q .inv .0 .from)) later kept same
 
 leap-far-requires : tie.Need-leap-far-requires Inv-loop μ-loop
+unfolding columns
 leap-far-requires c κs =
-    let p = c .before .before .before .before .before .before .before .before .before .before .before .before in
+    let p = c .before .before .before .before .before .before .before .before .before .before .before .before .before .before in
     let q = c .before .loop in
-    (q .inv .4 .kept, tried (c .before .before .before .before .before .before) (q .x) (q .inv .0 .from) (q .inv .1), p .pre .4)
+    (q .inv .4 .kept, tried (c .before .before .before .before .before .before .before .before .before .before .before .before .before .before) (q .x) (q .inv .0 .from) (q .inv .1), p .pre .4)
 
 -- The climb stands where the leap ends.
-climbed : (c : tie.After-leap-far Inv-loop μ-loop) → let p = c .before .before .before .before .before .before .before .before .before .before .before .before .before in
-    Climbed (rtaRight (sheetOf (now (p .args .words))) (p .args .processors) (p .args .row) (now (p .args .bounds))) ((sheetOf (now (p .args .words))) .cost (p .args .row)) (c .leap-far .result .x)
+climbed : (c : tie.After-leap-far Inv-loop μ-loop) → let p = c .before .before .before .before .before .before .before .before .before .before .before .before .before .before .before in
+    Climbed (rtaRight (columns (now (p .args .costs)) (now (p .args .deadlines)) (now (p .args .periods))) (p .args .processors) (p .args .row) (now (p .args .bounds))) ((columns (now (p .args .costs)) (now (p .args .deadlines)) (now (p .args .periods))) .cost (p .args .row)) (c .leap-far .result .x)
+unfolding columns
 climbed c =
-    let p = c .before .before .before .before .before .before .before .before .before .before .before .before .before in
+    let p = c .before .before .before .before .before .before .before .before .before .before .before .before .before .before .before in
     let q = c .before .before .loop in
     let leapt = c .leap-far .ensures in
-    climb-on _ _ _ _ _ _ (q .x) _ (met-by (c .before .before) _ _ _ (q .x) (omega arith) (leapt .0) (leapt .1 .0)) (p .pre .3) (c .before .before .before .before .before .before .before .before .cost .result) _ (c .before .before .before .before .before .before .before .before .cost .ensures)
-    (omega (arith, c .before .before .before .before .before .before .before .before .cost .ensures, q .inv .0 .from)) (leapt .1 .1 .0) (leapt .1 .1 .2) (q .inv .0)
+    climb-on _ _ _ _ _ _ (q .x) _ (met-by (c .before .before) _ _ _ (q .x) (omega arith) (leapt .0) (leapt .1 .0)) (p .pre .3) _ _ refl
+    (omega (arith, q .inv .0 .from)) (leapt .1 .1 .0) (leapt .1 .1 .2) (q .inv .0)
 
 onward-requires : tie.Need-onward-requires Inv-loop μ-loop
+unfolding columns
 onward-requires c κs =
-    let p = c .before .before .before .before .before .before .before .before .before .before .before .before .before .before .before .before .before in
+    let p = c .before .before .before .before .before .before .before .before .before .before .before .before .before .before .before .before .before .before .before in
     let q = c .before .before .before .before .before .before .loop in
     let leapt = c .before .before .before .before .leap-far .ensures in
     let goes = leapt .1 .1 in (
       leapt .0 .0,
-      tried (c .before .before .before .before .before .before .before .before .before .before .before) _ (omega (arith, q .inv .0 .from, goes .0)) (omega (arith, goes .1, c .before .before .before .before .before .before .before .before .before .before .before .deadline .ensures)),
+      tried (c .before .before .before .before .before .before .before .before .before .before .before .before .before .before .before .before .before .before .before) _ (omega (arith, q .inv .0 .from, goes .0)) (omega (arith, goes .1)),
       p .pre .3,
       p .pre .4,
       omega (arith, leapt .0 .1, q .inv .4 .fewer, q .inv .2, p .pre .2),
     )
 
 -- And where the next number is.
-onwards : (c : tie.After-onward Inv-loop μ-loop) → let p = c .before .before .before .before .before .before .before .before .before .before .before .before .before .before .before .before .before .before in
-    Climbed (rtaRight (sheetOf (now (p .args .words))) (p .args .processors) (p .args .row) (now (p .args .bounds))) ((sheetOf (now (p .args .words))) .cost (p .args .row)) (c .onward .result)
+onwards : (c : tie.After-onward Inv-loop μ-loop) → let p = c .before .before .before .before .before .before .before .before .before .before .before .before .before .before .before .before .before .before .before .before in
+    Climbed (rtaRight (columns (now (p .args .costs)) (now (p .args .deadlines)) (now (p .args .periods))) (p .args .processors) (p .args .row) (now (p .args .bounds))) ((columns (now (p .args .costs)) (now (p .args .deadlines)) (now (p .args .periods))) .cost (p .args .row)) (c .onward .result)
+unfolding columns
 onwards c =
-    let p = c .before .before .before .before .before .before .before .before .before .before .before .before .before .before .before .before .before .before in
+    let p = c .before .before .before .before .before .before .before .before .before .before .before .before .before .before .before .before .before .before .before .before in
     let from = c .before .before .before .before .before .leap-far .result .x in
     let leapt = c .before .before .before .before .before .leap-far .ensures in
     let there = climbed (c .before .before .before .before .before) in
-    climb-on _ _ _ _ _ _ from _ (met-by (c .before .before .before .before .before .before .before) _ _ _ from (leapt .1 .1 .0) (leapt .0) (leapt .1 .0)) (p .pre .3) (c .before .before .before .before .before .before .before .before .before .before .before .before .before .cost .result) _ (c .before .before .before .before .before .before .before .before .before .before .before .before .before .cost .ensures)
-    (omega (arith, c .before .before .before .before .before .before .before .before .before .before .before .before .before .cost .ensures, there .from)) (c .onward .ensures .0 .0) (c .onward .ensures .0 .1) there
+    climb-on _ _ _ _ _ _ from _ (met-by (c .before .before .before .before .before .before .before) _ _ _ from (leapt .1 .1 .0) (leapt .0) (leapt .1 .0)) (p .pre .3) _ _ refl
+    (omega (arith, there .from)) (c .onward .ensures .0 .0) (c .onward .ensures .0 .1) there
 
 same-length : tie.Need-same-length Inv-loop μ-loop
-same-length c = c .before .before .before .before .before .before .before .before .leap-far .ensures .0 .0 .rows .sized ∙ sym (c .before .before .before .before .before .before .before .before .before .before .before .before .before .before .before .before .before .before .before .before .before .pre .5)
+same-length c = c .before .before .before .before .before .before .before .before .leap-far .ensures .0 .0 .rows .sized ∙ sym (c .before .before .before .before .before .before .before .before .before .before .before .before .before .before .before .before .before .before .before .before .before .before .before .pre .5)
 
 same-length-2 : tie.Need-same-length-2 Inv-loop μ-loop
-same-length-2 c = c .before .before .before .onward .kept .1 .1 .1 .1 .1 .1 .0 ∙ c .before .before .before .before .before .before .before .before .before .before .loop .inv .2 ∙ sym (c .before .before .before .before .before .before .before .before .before .before .before .before .before .before .before .before .before .before .before .before .before .pre .6)
+same-length-2 c = c .before .before .before .onward .kept .1 .1 .1 .1 .1 .1 .0 ∙ c .before .before .before .before .before .before .before .before .before .before .loop .inv .2 ∙ sym (c .before .before .before .before .before .before .before .before .before .before .before .before .before .before .before .before .before .before .before .before .before .before .before .pre .6)
 
 returns : tie.Need-returns Inv-loop μ-loop
-unfolding foundOf boundOr
+unfolding foundOf boundOr columns
 returns c =
-    let p = c .before .before .before .before .before .before .before .before .before .before .before .before .before .before .before .before .before .before .before .before .before in
+    let p = c .before .before .before .before .before .before .before .before .before .before .before .before .before .before .before .before .before .before .before .before .before .before .before in
     let from = c .before .before .before .before .before .before .before .before .leap-far .result .x in
     let leapt = c .before .before .before .before .before .before .before .before .leap-far .ensures in
     let there = climbed (c .before .before .before .before .before .before .before .before) in
-    let stays = right-stands _ _ _ _ _ _ from _ (met-by (c .before .before .before .before .before .before .before .before .before .before) _ _ _ from (leapt .1 .1 .0) (leapt .0) (leapt .1 .0)) (p .pre .3) _ (c .before .before .before .before .before .before .before .before .before .before .before .before .before .before .before .before .cost .ensures) (omega (arith, there .from, c .before .before .before .before .before .before .before .before .before .before .before .before .before .before .before .before .cost .ensures)) (c .before .before .before .onward .ensures .1 (c .if1 .taken)) in
-    sym (ap (λ (o : Option ℕ). boundOr (foundOf o) 0) (climb-found _ _ _ _ from there (omega (arith, c .before .before .before .before .before .before .before .before .leap-far .ensures .1 .1 .1, c .before .before .before .before .before .before .before .before .before .before .before .before .before .before .before .deadline .ensures)) (le-antisymm (there .rises) stays)))
+    let stays = right-stands _ _ _ _ _ _ from _ (met-by (c .before .before .before .before .before .before .before .before .before .before) _ _ _ from (leapt .1 .1 .0) (leapt .0) (leapt .1 .0)) (p .pre .3) _ refl (omega (arith, there .from)) (c .before .before .before .onward .ensures .1 (c .if1 .taken)) in
+    sym (ap (λ (o : Option ℕ). boundOr (foundOf o) 0) (climb-found _ _ _ _ from there (omega (arith, c .before .before .before .before .before .before .before .before .leap-far .ensures .1 .1 .1)) (le-antisymm (there .rises) stays)))
 
 same-length-3 : tie.Need-same-length-3 Inv-loop μ-loop
-same-length-3 c = c .before .before .before .before .before .before .before .before .before .leap-far .ensures .0 .0 .rows .sized ∙ sym (c .before .before .before .before .before .before .before .before .before .before .before .before .before .before .before .before .before .before .before .before .before .before .pre .5)
+same-length-3 c = c .before .before .before .before .before .before .before .before .before .leap-far .ensures .0 .0 .rows .sized ∙ sym (c .before .before .before .before .before .before .before .before .before .before .before .before .before .before .before .before .before .before .before .before .before .before .before .before .pre .5)
 
 same-length-4 : tie.Need-same-length-4 Inv-loop μ-loop
-same-length-4 c = c .before .before .before .before .onward .kept .1 .1 .1 .1 .1 .1 .0 ∙ c .before .before .before .before .before .before .before .before .before .before .before .loop .inv .2 ∙ sym (c .before .before .before .before .before .before .before .before .before .before .before .before .before .before .before .before .before .before .before .before .before .before .pre .6)
+same-length-4 c = c .before .before .before .before .onward .kept .1 .1 .1 .1 .1 .1 .0 ∙ c .before .before .before .before .before .before .before .before .before .before .before .loop .inv .2 ∙ sym (c .before .before .before .before .before .before .before .before .before .before .before .before .before .before .before .before .before .before .before .before .before .before .before .before .pre .6)
 
 -- What is not the same is further.
 further : (c : tie.Else1 Inv-loop μ-loop) → c .before .before .before .before .before .before .before .before .leap-far .result .x < c .before .before .before .onward .result
 further c = omega (arith, c .before .before .before .onward .ensures .0 .0, c .if1 .left)
 
 returns-2 : tie.Need-returns-2 Inv-loop μ-loop
-unfolding foundOf boundOr
-returns-2 c = sym (ap (λ (o : Option ℕ). boundOr (foundOf o) 0) (climb-none _ _ _ _ _ (onwards (c .before .before .before .before)) (omega (arith, c .if2 .taken, c .before .before .before .before .before .before .before .before .before .before .before .before .before .before .before .before .deadline .ensures))))
+unfolding foundOf boundOr columns
+returns-2 c = sym (ap (λ (o : Option ℕ). boundOr (foundOf o) 0) (climb-none _ _ _ _ _ (onwards (c .before .before .before .before)) (omega (arith, c .if2 .taken))))
 
 loop-less : tie.Need-loop-less Inv-loop μ-loop
-loop-less c = omega (arith, further (c .before), c .if2 .left, c .before .before .before .before .before .before .before .before .before .before .before .before .before .before .before .before .deadline .ensures, c .before .before .before .before .before .before .before .before .before .leap-far .ensures .1 .1 .0)
+unfolding columns
+loop-less c = omega (arith, further (c .before), c .if2 .left, c .before .before .before .before .before .before .before .before .before .leap-far .ensures .1 .1 .0)
 
 loop-again : tie.Need-loop-again Inv-loop μ-loop
+unfolding columns
 loop-again c =
     let q = c .before .before .before .before .before .before .before .before .before .before .before .loop in
     let leapt = c .before .before .before .before .before .before .before .before .before .leap-far .ensures in (
       onwards (c .before .before .before .before),
-      omega (arith, c .if2 .left, c .before .before .before .before .before .before .before .before .before .before .before .before .before .before .before .before .deadline .ensures),
+      omega (arith, c .if2 .left),
       c .before .before .before .before .onward .kept .1 .1 .1 .1 .1 .1 .0 ∙ q .inv .2,
       omega (arith, further (c .before), q .inv .3, c .before .before .before .before .before .before .before .before .before .leap-far .ensures .1 .1 .0),
       met-by (c .before .before .before .before .before .before .before .before .before .before .before) _ _ _ (c .before .before .before .before .onward .result) (omega (arith, c .before .before .before .before .onward .ensures .0 .0, leapt .1 .1 .0)) (leapt .0) (leapt .1 .0),
@@ -168,8 +181,10 @@ rta-quickly-spec =
     (tie.spec
     Inv-loop
     μ-loop
-    cost-requires
-    deadline-requires
+    mul-own
+    shared-slice-read-own
+    mul-top
+    shared-slice-read-top
     meet-others-requires
     loop-holds
     add-step

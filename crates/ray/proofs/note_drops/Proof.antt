@@ -7,29 +7,23 @@ use Prim.Native.Nat.{ℕ, _-_, _≤_, _<_}
 use lib.ListN.{length, getD, length-set}
 use lib.Seq.{getD-set-same, getD-set-other}
 use denote.Ref.{now}
+use Rattle.model.specs.Sheet.{columns}
 use Rattle.model.proofs.Sheet.{row-sized}
-use Rattle.rows.specs.Words.{sheetOf}
 use Rattle.ray.proofs.note_drops.Statement.{statement}
 use Rattle.ray.proofs.note_drops.Tie as tie
 
 abbrev Inv-loop : tie.InvT-loop
-Inv-loop words bounds before drops₀ count sweeps row₀ drops row =
+Inv-loop costs deadlines periods bounds before drops₀ count sweeps row₀ drops row =
     (row ≤ count) × (length drops ≡ count) × ((i : ℕ) → i < row → getD drops i 0 ≤ 1_000_000)
 
 abbrev μ-loop : tie.MeasureT-loop
-μ-loop words bounds before drops₀ count sweeps row₀ drops row = count - row
+μ-loop costs deadlines periods bounds before drops₀ count sweeps row₀ drops row = count - row
 
 loop-holds : tie.Need-loop-holds Inv-loop μ-loop
-loop-holds c = (omega arith, c .before .before .before .before .pre .2, λ i h. absurd (omega arith))
+loop-holds c = (omega arith, c .before .before .before .before .before .before .pre .2, λ i h. absurd (omega arith))
 
 cast-at : tie.Need-cast-at Inv-loop μ-loop
 cast-at c = search needs
-
-mul-at : tie.Need-mul-at Inv-loop μ-loop
-mul-at c = search needs
-
-cast-place : tie.Need-cast-place Inv-loop μ-loop
-cast-place c = search needs
 
 mul-next-drop : tie.Need-mul-next-drop Inv-loop μ-loop
 mul-next-drop c = search needs
@@ -72,10 +66,10 @@ loop-less c = search needs
 
 loop-again : tie.Need-loop-again Inv-loop μ-loop
 loop-again c =
-    let p = c .before .before .before .before .before .before .before .before .before .before .before in
+    let p = c .before .before .before .before .before .before .before .before .before .before .before .before .before in
     let q = c .before .before .before .before .before .before .loop in
     let words = now (p .args .words) in
-    let inside : q .row < (sheetOf words) .rows = omega (arith, p .pre .1) in
+    let inside : q .row < (columns costs deadlines periods) .rows = omega (arith, p .pre .1) in
     let range = p .pre .0 .in-range (q .row) inside in
     let sized = row-sized _ (p .pre .0 .rows) (q .row) inside in (
       omega arith,
@@ -90,9 +84,9 @@ same-length c = search needs
 
 returns : tie.Need-returns Inv-loop μ-loop
 returns c =
-    let p = c .before .before .before .before .before .before in
+    let p = c .before .before .before .before .before .before .before .before in
     let q = c .before .loop in
-    let done : q .row ≡ (sheetOf (now (p .args .words))) .rows = omega (arith, p .pre .1, q .inv .0) in
+    let done : q .row ≡ (columns (now (p .args .costs)) (now (p .args .deadlines)) (now (p .args .periods))) .rows = omega (arith, p .pre .1, q .inv .0) in
     record { one-each = q .inv .1 ∙ p .pre .1; each = λ i h. q .inv .2 i (omega arith) }
 
 pub note-drops-spec : {M : Type 1} → statement M
@@ -103,8 +97,6 @@ note-drops-spec =
     μ-loop
     loop-holds
     cast-at
-    mul-at
-    cast-place
     mul-next-drop
     slice-read-next-drop
     mul-next-drop-2

@@ -14,7 +14,7 @@ ray-pass-requires c κs = search needs
 
 step-down-requires : tie.Need-step-down-requires
 step-down-requires c κs =
-    let p = c .before .before .before .before .before .before .before .before .before .before .before .before .before .before .before in
+    let p = c .before .before .before .before .before .before .before .before .before .before .before .before .before .before .before .before .before in
     let lowered = c .before .before .before .before .before .before .ray-pass .ensures in (
       lowered .one-each ∙ sym (p .pre .0 .counted),
       lowered .drops-small .one-each ∙ sym (p .pre .0 .counted),
@@ -31,7 +31,7 @@ same-length-2 c = search needs
 
 returns : tie.Need-returns
 returns c =
-    let p = c .before .before .before .before .before .before .before .before .before .before .before .before .before .before .before .before .before .before in
+    let p = c .before .before .before .before .before .before .before .before .before .before .before .before .before .before .before .before .before .before .before .before in
     lowered-down _ _ _ _ _ _ (c .before .before .before .before .before .before .before .before .before .ray-pass .ensures) (p .args .count) (p .pre .0 .counted) _ (c .before .before .step-down .ensures)
 
 pub ray-once-spec : {M : Type 1} → statement M

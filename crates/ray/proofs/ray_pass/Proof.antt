@@ -7,8 +7,8 @@ use native.Mathlib.Nat.{mul-le-mul, le-refl, le-trans}
 use lib.ListN.{length}
 use Prim.Native.Nat.{ℕ, _+_, _*_, _-_, _≤_, _<_}
 use mathlib.Core.Path.{_≡_, refl, _∙_}
+use Rattle.model.specs.Sheet.{columns}
 use Rattle.model.proofs.Ray.{OnRay, ray-first}
-use Rattle.rows.specs.Words.{sheetOf}
 use Rattle.refinement.specs.Refinement.{askOf}
 use Rattle.refinement.proofs.Steps.{ask-regular}
 use Rattle.refinement.proofs.Descent.{on-way, ray-lost, ray-done, ray-lowered, ray-stayed}
@@ -16,14 +16,14 @@ use Rattle.ray.proofs.ray_pass.Statement.{statement}
 use Rattle.ray.proofs.ray_pass.Tie as tie
 
 abbrev Inv-loop : tie.InvT-loop
-Inv-loop words bounds₀ drops₀ processors method count most steps₀ row₀ bounds drops steps row =
-    (length bounds ≡ length bounds₀) × (length drops ≡ length drops₀) × (drops ≡ drops₀) × OnRay (sheetOf words) (askOf (sheetOf words) processors method) bounds₀ drops₀ row steps bounds × (steps ≤ most) × (row ≤ count)
+Inv-loop costs deadlines periods bounds₀ drops₀ processors method count most steps₀ row₀ bounds drops steps row =
+    (length bounds ≡ length bounds₀) × (length drops ≡ length drops₀) × (drops ≡ drops₀) × OnRay (columns costs deadlines periods) (askOf (columns costs deadlines periods) processors method) bounds₀ drops₀ row steps bounds × (steps ≤ most) × (row ≤ count)
 
 abbrev μ-loop : tie.MeasureT-loop
-μ-loop words bounds₀ drops₀ processors method count most steps₀ row₀ bounds drops steps row = count - row
+μ-loop costs deadlines periods bounds₀ drops₀ processors method count most steps₀ row₀ bounds drops steps row = count - row
 
 loop-holds : tie.Need-loop-holds Inv-loop μ-loop
-loop-holds c = (refl, refl, refl, ray-first _ _ (ask-regular _ _ _) _ _ _ (c .before .before .before .pre .0 .held), omega arith, omega arith)
+loop-holds c = (refl, refl, refl, ray-first _ _ (ask-regular _ _ _) _ _ _ (c .before .before .before .before .before .pre .0 .held), omega arith, omega arith)
 
 cast-drop : tie.Need-cast-drop Inv-loop μ-loop
 cast-drop c = search needs
@@ -36,7 +36,7 @@ slice-read-drop c = search needs
 
 row-reach-requires : tie.Need-row-reach-requires Inv-loop μ-loop
 row-reach-requires c κs =
-    let p = c .before .before .before .before .before .before .before .before .before in
+    let p = c .before .before .before .before .before .before .before .before .before .before .before in
     let q = c .before .before .before .before .before .loop in (
       rw (q .inv .2) (on-way _ _ (ask-regular _ _ _) _ _ _ (p .pre .0 .ready) (p .pre .1) (p .pre .2) (q .row) (q .steps) (q .bounds) (q .inv .3) (q .inv .4) (omega (arith, p .pre .0 .counted))),
       p .pre .0 .counted,
@@ -62,7 +62,7 @@ same-length-2 c = search needs
 
 returns : tie.Need-returns Inv-loop μ-loop
 returns c =
-    let p = c .before .before .before .before .before .before .before .before .before .before .before in
+    let p = c .before .before .before .before .before .before .before .before .before .before .before .before .before in
     let q = c .before .before .before .before .before .before .before .loop in
     rw (q .inv .2) (ray-lost _ _ (ask-regular _ _ _) _ _ _ (p .pre .0 .ready) (p .pre .1) (p .pre .2) (q .row) (q .steps) (q .bounds) (q .inv .3) (omega (arith, p .pre .0 .counted)))
 
@@ -83,7 +83,7 @@ first-step steps reach drop cost bound fewer some room =
 
 sub-bounds : tie.Need-sub-bounds Inv-loop μ-loop
 sub-bounds c =
-    let p = c .before .before .before .before .before .before .before .before .before .before .before .before in
+    let p = c .before .before .before .before .before .before .before .before .before .before .before .before .before .before in
     let q = c .before .before .before .before .before .before .before .before .loop in
     let reach = c .before .before .row-reach in
     let way = on-way _ _ (ask-regular _ _ _) _ _ _ (p .pre .0 .ready) (p .pre .1) (p .pre .2) (q .row) (q .steps) (q .bounds) (q .inv .3) (q .inv .4) (omega (arith, p .pre .0 .counted)) in
@@ -105,17 +105,17 @@ loop-less : tie.Need-loop-less Inv-loop μ-loop
 loop-less c = search needs
 
 -- Either way the ray goes on behind the row.
-joined : (c : tie.Joined1 Inv-loop μ-loop) → let p = c .before .before .before .before .before .before .before in
+joined : (c : tie.Joined1 Inv-loop μ-loop) → let p = c .before .before .before .before .before .before .before .before .before in
     let q = c .before .before .before .loop in
     let words = now (p .args .words) in
-    OnRay (sheetOf words) (askOf (sheetOf words) (p .args .processors) (p .args .method)) (now (p .args .bounds)) (now (p .args .drops)) (q .row + 1)
+    OnRay (columns costs deadlines periods) (askOf (columns costs deadlines periods) (p .args .processors) (p .args .method)) (now (p .args .bounds)) (now (p .args .drops)) (q .row + 1)
     (c .if1 .steps) (c .if1 .bounds)
     × (c .if1 .steps ≤ q .steps)
     × (length (c .if1 .bounds) ≡ length (q .bounds))
 joined c =
-    let p = c .before .before .before .before .before .before .before in
+    let p = c .before .before .before .before .before .before .before .before .before in
     let q = c .before .before .before .loop in
-    let inside : q .row < (sheetOf (now (p .args .words))) .rows = omega (arith, p .pre .0 .counted) in
+    let inside : q .row < (columns (now (p .args .costs)) (now (p .args .deadlines)) (now (p .args .periods))) .rows = omega (arith, p .pre .0 .counted) in
     ⊎-elim
     (λ w.
     ray-lowered _ _ (ask-regular _ _ _) _ _ _ (q .row) (q .steps) (q .bounds) (q .inv .3) inside (q .inv .2) (w .3 .result) (w .3 .ensures) (w .4 .left) _ _ (w .6) (w .7))
@@ -124,7 +124,7 @@ joined c =
 
 loop-again : tie.Need-loop-again Inv-loop μ-loop
 loop-again c =
-    let p = c .before .before .before .before .before .before .before in
+    let p = c .before .before .before .before .before .before .before .before .before in
     let q = c .before .before .before .loop in
     let next = joined c in
     (next .2 ∙ q .inv .0, q .inv .1, q .inv .2, next .0, le-trans (next .1) (q .inv .4), omega arith)
@@ -140,7 +140,7 @@ same-length-4 c = search needs
 
 returns-2 : tie.Need-returns-2 Inv-loop μ-loop
 returns-2 c =
-    let p = c .before .before .before .before .before .before in
+    let p = c .before .before .before .before .before .before .before .before in
     let q = c .before .before .loop in
     rw (q .inv .2)
     (ray-done _ _ (ask-regular _ _ _) _ _ _ (p .pre .0 .ready) (p .pre .1) (p .pre .2) (q .row) (q .steps) (q .bounds) (p .pre .0 .held) (q .inv .3) (q .inv .4)
