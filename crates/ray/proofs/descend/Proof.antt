@@ -26,8 +26,8 @@ ray-once-requires c κs =
 
 -- After one more ray.
 further : (c : tie.After-ray-once Inv-loop μ-loop) → let p = c .before .before .before .before .before .before .before .before .before .before in
-    let words = now (p .args .words) in
-    Descended (columns costs deadlines periods) (askOf (columns costs deadlines periods) (p .args .processors) (p .args .method)) (now (p .args .bounds)) (c .ray-once .last .1 .0) (c .ray-once .last .1 .1 .0)
+    let s = columns (now (p .args .costs)) (now (p .args .deadlines)) (now (p .args .periods)) in
+    Descended s (askOf s (p .args .processors) (p .args .method)) (now (p .args .bounds)) (c .ray-once .last .1 .1 .1 .0) (c .ray-once .last .1 .1 .1 .1 .0)
 further c = descended-more _ _ _ _ _ _ _ (c .before .before .before .before .loop .inv) (c .ray-once .ensures)
 
 same-length : tie.Need-same-length Inv-loop μ-loop

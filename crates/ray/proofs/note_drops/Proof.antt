@@ -68,8 +68,8 @@ loop-again : tie.Need-loop-again Inv-loop μ-loop
 loop-again c =
     let p = c .before .before .before .before .before .before .before .before .before .before .before .before .before in
     let q = c .before .before .before .before .before .before .loop in
-    let words = now (p .args .words) in
-    let inside : q .row < (columns costs deadlines periods) .rows = omega (arith, p .pre .1) in
+    let s = columns (now (p .args .costs)) (now (p .args .deadlines)) (now (p .args .periods)) in
+    let inside : q .row < s .rows = omega (arith, p .pre .1) in
     let range = p .pre .0 .in-range (q .row) inside in
     let sized = row-sized _ (p .pre .0 .rows) (q .row) inside in (
       omega arith,

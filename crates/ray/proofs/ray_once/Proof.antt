@@ -20,7 +20,7 @@ step-down-requires c κs =
       lowered .drops-small .one-each ∙ sym (p .pre .0 .counted),
       λ i h.
           let inside = le-trans h (le-of-eq (p .pre .0 .counted)) in
-          (lowered .room i inside, lowered-small _ _ (p .pre .0 .ready) (c .before .before .before .before .before .before .ray-pass .last .1 .0) (lowered .below) i inside),
+          (lowered .room i inside, lowered-small _ _ (p .pre .0 .ready) (c .before .before .before .before .before .before .ray-pass .last .1 .1 .1 .0) (lowered .below) i inside),
     )
 
 same-length : tie.Need-same-length

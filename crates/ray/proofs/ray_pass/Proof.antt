@@ -107,8 +107,8 @@ loop-less c = search needs
 -- Either way the ray goes on behind the row.
 joined : (c : tie.Joined1 Inv-loop μ-loop) → let p = c .before .before .before .before .before .before .before .before .before in
     let q = c .before .before .before .loop in
-    let words = now (p .args .words) in
-    OnRay (columns costs deadlines periods) (askOf (columns costs deadlines periods) (p .args .processors) (p .args .method)) (now (p .args .bounds)) (now (p .args .drops)) (q .row + 1)
+    let s = columns (now (p .args .costs)) (now (p .args .deadlines)) (now (p .args .periods)) in
+    OnRay s (askOf s (p .args .processors) (p .args .method)) (now (p .args .bounds)) (now (p .args .drops)) (q .row + 1)
     (c .if1 .steps) (c .if1 .bounds)
     × (c .if1 .steps ≤ q .steps)
     × (length (c .if1 .bounds) ≡ length (q .bounds))

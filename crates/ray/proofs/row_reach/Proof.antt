@@ -60,7 +60,7 @@ room-small : (s : tie.Start) → (s .args .most ≡ 0 → ⊥)
 room-small s some = let known = sizes s some in product-small (s .args .processors) _ (s .pre .3) (omega arith)
 
 sub-first : tie.Need-sub-first
-sub-first c = let known = sizes (c .before .before .before .before .before .before) (c .before .before .if1 .left) in omega arith
+sub-first c = let known = sizes (c .before .before .before .before .before .before .before .before) (c .before .before .if1 .left) in omega arith
 
 mul-steps-below : tie.Need-mul-steps-below
 mul-steps-below c = search needs
@@ -87,19 +87,19 @@ shared-slice-read-steps-below-2 c = search needs
 
 sub-steps-below : tie.Need-sub-steps-below
 unfolding columns
-sub-steps-below c = let known = sizes (c .before .before .before .before .before .before .before .before .before .before) (c .before .before .before .before .before .before .if1 .left) in omega arith
+sub-steps-below c = let known = sizes (c .before .before .before .before .before .before .before .before .before .before .before .before) (c .before .before .before .before .before .before .if1 .left) in omega arith
 
 add-steps-below : tie.Need-add-steps-below
 unfolding columns
-add-steps-below c = let known = sizes (c .before .before .before .before .before .before .before .before .before .before) (c .before .before .before .before .before .before .if1 .left) in omega arith
+add-steps-below c = let known = sizes (c .before .before .before .before .before .before .before .before .before .before .before .before) (c .before .before .before .before .before .before .if1 .left) in omega arith
 
 mul-steps-below-4 : tie.Need-mul-steps-below-4
 unfolding columns
-mul-steps-below-4 c = omega (arith, room-small (c .before .before .before .before .before .before .before .before .before .before) (c .before .before .before .before .before .before .if1 .left))
+mul-steps-below-4 c = omega (arith, room-small (c .before .before .before .before .before .before .before .before .before .before .before .before) (c .before .before .before .before .before .before .if1 .left))
 
 steps-below-requires : tie.Need-steps-below-requires
 unfolding columns
-steps-below-requires c κs = (c .before .sum-of-lines .ensures .small, room-small (c .before .before .before .before .before .before .before .before .before .before) (c .before .before .before .before .before .before .if1 .left))
+steps-below-requires c κs = (c .before .sum-of-lines .ensures .small, room-small (c .before .before .before .before .before .before .before .before .before .before .before .before) (c .before .before .before .before .before .before .if1 .left))
 
 returns-2 : tie.Need-returns-2
 unfolding columns

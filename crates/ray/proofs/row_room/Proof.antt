@@ -20,7 +20,7 @@ from-cost : (s : tie.Start) → (columns (now (s .args .costs)) (now (s .args .d
 from-cost s = s .pre .0 .in-range (s .args .row) (s .pre .2) .0
 
 returns : tie.Need-returns
-returns c = let p = c .before .before .before .before in rw (c .if1 .taken, mul-zero, zero-add) (from-cost p)
+returns c = let p = c .before .before in rw (c .if1 .taken, mul-zero, zero-add) (from-cost p)
 
 mul-result : tie.Need-mul-result
 mul-result c = search needs
@@ -36,7 +36,7 @@ shared-slice-read-result-2 c = search needs
 
 sub-result : tie.Need-sub-result
 unfolding columns
-sub-result c = let p = c .before .before .before .before .before .before in omega (arith, from-cost p)
+sub-result c = let p = c .before .before .before .before in omega (arith, from-cost p)
 
 div-result : tie.Need-div-result
 div-result c = search needs
@@ -44,7 +44,7 @@ div-result c = search needs
 returns-2 : tie.Need-returns-2
 unfolding columns
 returns-2 c =
-    let p = c .before .before .before .before .before .before in
+    let p = c .before .before .before .before in
     let bound = getD (now (p .args .bounds)) (p .args .row) 0 in
     omega (
       arith,
