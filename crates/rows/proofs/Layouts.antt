@@ -10,9 +10,10 @@ use lib.ListN.{length, getD, take}
 use lib.Seq.{take-at}
 use Rattle.laws.specs.Fill.{listed, joined}
 use Rattle.laws.proofs.Choice.{and-left, and-right, and-both}
-use Rattle.laws.proofs.Fill.{listed-length, listed-at, joined-length, joined-at}
+use Rattle.laws.proofs.Fill.{listed-length, listed-at, listed-back, joined-length, joined-at}
 use Rattle.model.specs.Sheet.{Sheet, triples, columns}
 use Rattle.model.specs.Alike.{Alike}
+use Rattle.model.specs.Refine.{deadlines}
 use Rattle.model.proofs.Alike.{alike-back, alike-then}
 use Rattle.rows.specs.Words.{sheetOf}
 use Rattle.rows.specs.Checks.{notWhole}
@@ -30,6 +31,11 @@ columns-even costs deadlines periods passed =
       deadlines-each = eqb-true _ _ (and-left (eqb (length deadlines) (length costs)) _ both);
       periods-each = eqb-true _ _ (and-right (eqb (length deadlines) (length costs)) _ both);
     }
+
+-- The deadlines, at which all bounds begin, are their column.
+pub deadlines-column : (costs deadline-words periods : List ℕ) → Even costs deadline-words periods → deadlines (columns costs deadline-words periods) ≡ deadline-words
+unfolding deadlines columns
+deadlines-column costs deadline-words periods even = listed-back deadline-words (length costs) (even .deadlines-each)
 
 -- The same rows one way are the same rows the other way, and over a third layout.
 pub same-back : (one other : Lent) → SameRows one other → SameRows other one

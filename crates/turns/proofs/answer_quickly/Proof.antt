@@ -19,19 +19,19 @@ slice-aggregate-bound-quickly : tie.Need-slice-aggregate-bound-quickly
 slice-aggregate-bound-quickly c = refl
 
 array-borrow-prefix-room : tie.Need-array-borrow-prefix-room
-array-borrow-prefix-room c = let p = c .before .before .before in omega (arith, few-rows _ (p .pre .0 .rows))
+array-borrow-prefix-room c = let p = c .before .before .before .before .before in omega (arith, few-rows _ (p .pre .0 .rows))
 
 slice-aggregate-bound-quickly-2 : tie.Need-slice-aggregate-bound-quickly-2
-slice-aggregate-bound-quickly-2 c = sym (front (c .before .before .before .before))
+slice-aggregate-bound-quickly-2 c = sym (front (c .before .before .before .before .before .before))
 
 bound-quickly-requires : tie.Need-bound-quickly-requires
-bound-quickly-requires c κs = let p = c .before .before .before .before in (p .pre .0, p .pre .1, p .pre .2, p .pre .3, p .pre .4, refl, front p, p .pre .5)
+bound-quickly-requires c κs = let p = c .before .before .before .before .before .before in (p .pre .0, p .pre .1, p .pre .2, p .pre .3, p .pre .4, refl, front p, p .pre .5)
 
 found-of-requires : tie.Need-found-of-requires
 found-of-requires c κs = search needs
 
 returns : tie.Need-returns
-returns c = let p = c .before .before .before .before .before .before .before .before in found-told _ (now (p .args .bounds)) (p .args .processors) (p .args .row) (p .args .method) _ _ (p .pre .0) (p .pre .1) (c .before .before .before .bound-quickly .ensures) (c .found-of .ensures)
+returns c = let p = c .before .before .before .before .before .before .before .before .before .before in found-told _ (now (p .args .bounds)) (p .args .processors) (p .args .row) (p .args .method) _ _ (p .pre .0) (p .pre .1) (c .before .before .before .bound-quickly .ensures) (c .found-of .ensures)
 
 pub answer-quickly-spec : {M : Type 1} → statement M
 answer-quickly-spec =
