@@ -31,18 +31,6 @@ pub fn copy_back(next: &[u32], bounds: &mut [u32], count: u32) -> bool
     moved
 }
 
-// Copies the deadlines, at which all bounds begin.
-pub fn fill_deadlines(deadlines: &[u32], bounds: &mut [u32], count: u32)
-    requires { ⌜ (length (now deadlines) ≡ count) × (length (now bounds) ≡ count) ⌝ }
-    ensures { λ r. ⌜ now (bounds .exit) ≡ now (deadlines .entry) ⌝ }
-{
-    let mut row = 0;
-    while row < count {
-        bounds[row as usize] = deadlines[row as usize];
-        row += 1;
-    }
-}
-
 // A round over the bounds themselves, by way of the space lent for it.
 pub fn round_rows(
     costs: &[u32],
@@ -184,7 +172,7 @@ pub fn run_rounds(
     ensures seen { λ r. ⌜ r ≡ finalMarks rounds (columns (now (costs .entry)) (now (deadlines .entry)) (now (periods .entry))) processors method ⌝ }
     ensures settled { λ r. ⌜ now (bounds .exit) ≡ finalBounds rounds (columns (now (costs .entry)) (now (deadlines .entry)) (now (periods .entry))) processors method ⌝ }
 {
-    fill_deadlines(deadlines, bounds, count);
+    copy_back(deadlines, bounds, count);
     let mut next = [0u32; 64];
     let end = count as usize;
     settle_rounds(
@@ -213,7 +201,7 @@ pub fn run_at_once(
     ensures seen { λ r. ⌜ r ≡ finalMarks atOnce (columns (now (costs .entry)) (now (deadlines .entry)) (now (periods .entry))) processors method ⌝ }
     ensures settled { λ r. ⌜ now (bounds .exit) ≡ finalBounds atOnce (columns (now (costs .entry)) (now (deadlines .entry)) (now (periods .entry))) processors method ⌝ }
 {
-    fill_deadlines(deadlines, bounds, count);
+    copy_back(deadlines, bounds, count);
     let mut before = [0u32; 64];
     let mut drops = [0u32; 64];
     let mut others = [0u32; 320];

@@ -37,14 +37,15 @@ deadlines-ready s sizes =
     }
 
 -- So every engine begins on the way.
-pub running-first : (s : Sheet) (count m method : ℕ) → Allowed s → count ≡ s .rows → 1 ≤ m → m ≤ 64 → Running s (deadlines s) count m method
-running-first s count m method sizes counted some-processor few =
+pub running-first : (s : Sheet) (R : List ℕ) (count m method : ℕ) → Allowed s → count ≡ s .rows → 1 ≤ m → m ≤ 64 → R ≡ deadlines s
+    → Running s R count m method
+running-first s R count m method sizes counted some-processor few begins =
     record {
-      ready = deadlines-ready s sizes;
+      ready = rw begins (deadlines-ready s sizes);
       counted = counted;
       some-processor = some-processor;
       few = few;
-      held = deadlines-held s (askOf s m method) (ask-regular s m method);
+      held = rw begins (deadlines-held s (askOf s m method) (ask-regular s m method));
     }
 
 module _ (broken : Bool) (s : Sheet) (m method room need : ℕ) where

@@ -18,7 +18,7 @@ same-length-2 c = search needs
 
 returns : tie.Need-returns
 returns c =
-    let p = c .before .before .before .before .before .before .before .before .before .before .before .before .before in
+    let p = c .before .before .before .before .before .before .before .before .before .before .before .before .before .before .before in
     let filled = c .before .before .before .before .before .before .before .fill-turns in (
       round-done _ _ (ask-regular _ (p .args .processors) (p .args .method)) _ _ _ _ _ (p .pre .0 .held) (filled .ensures .1)
           (c .before .before .copy-back .ensures) (filled .ensures .0),

@@ -1,52 +1,54 @@
 -- `run_at_once` starts from the deadlines, which are on the way to its end.
 use borrow.Author.Needs.{needs}
-use mathlib.Core.Path.{_≡_, refl, sym}
+use mathlib.Core.Path.{_≡_, refl, sym, _∙_}
 use Prim.Native.Nat.{ℕ, _≤_}
 use lib.ListN.{length, take, replicate}
 use lib.Seq.{length-take-le}
 use native.Mathlib.Omega.{arith}
 use Rattle.model.proofs.Sheet.{few-rows}
+use Rattle.rows.proofs.Layouts.{deadlines-column}
 use Rattle.refinement.proofs.Refinement.{running-first}
 use Rattle.engines.proofs.run_at_once.Statement.{statement}
 use Rattle.engines.proofs.run_at_once.Tie as tie
 
-fill-deadlines-requires : tie.Need-fill-deadlines-requires
-fill-deadlines-requires c κs = search needs
+copy-back-requires : tie.Need-copy-back-requires
+copy-back-requires c κs =
+    let p = c .before .before .before .before .before in
+    (p .pre .5 .deadlines-each ∙ sym (p .pre .1), p .pre .3)
 
 -- The rows counted fit the space.
 fits : (s : tie.Start) → s .args .count ≤ 64
 fits s = omega (arith, few-rows _ (s .pre .0))
 
 array-borrow-prefix-before : tie.Need-array-borrow-prefix-before
-array-borrow-prefix-before c = fits (c .before .before .before .before .before .before .before)
+array-borrow-prefix-before c = fits (c .before .before .before .before .before .before .before .before .before)
 
 -- One word of the space for each row.
 space : (s : tie.Start) → length (take (s .args .count) (replicate {A = ℕ} 64 0)) ≡ s .args .count
 space s = length-take-le (s .args .count) (replicate 64 0) (fits s)
 
 slice-aggregate-settle-at-once : tie.Need-slice-aggregate-settle-at-once
-slice-aggregate-settle-at-once c = sym (space (c .before .before .before .before .before .before .before .before))
+slice-aggregate-settle-at-once c = sym (space (c .before .before .before .before .before .before .before .before .before .before))
 
 array-borrow-prefix-drops : tie.Need-array-borrow-prefix-drops
-array-borrow-prefix-drops c = fits (c .before .before .before .before .before .before .before .before)
+array-borrow-prefix-drops c = fits (c .before .before .before .before .before .before .before .before .before .before)
 
 slice-aggregate-settle-at-once-2 : tie.Need-slice-aggregate-settle-at-once-2
-slice-aggregate-settle-at-once-2 c = sym (space (c .before .before .before .before .before .before .before .before .before))
+slice-aggregate-settle-at-once-2 c = sym (space (c .before .before .before .before .before .before .before .before .before .before .before))
 
 slice-aggregate-settle-at-once-3 : tie.Need-slice-aggregate-settle-at-once-3
 slice-aggregate-settle-at-once-3 c = refl
 
 array-borrow-prefix-room : tie.Need-array-borrow-prefix-room
-array-borrow-prefix-room c = fits (c .before .before .before .before .before .before .before .before .before .before)
+array-borrow-prefix-room c = fits (c .before .before .before .before .before .before .before .before .before .before .before .before)
 
 slice-aggregate-settle-at-once-4 : tie.Need-slice-aggregate-settle-at-once-4
-slice-aggregate-settle-at-once-4 c = sym (space (c .before .before .before .before .before .before .before .before .before .before .before))
+slice-aggregate-settle-at-once-4 c = sym (space (c .before .before .before .before .before .before .before .before .before .before .before .before .before))
 
 settle-at-once-requires : tie.Need-settle-at-once-requires
 settle-at-once-requires c κs =
-    let p = c .before .before .before .before .before .before .before .before .before .before .before in
-    rw (c .before .before .before .before .before .before .before .fill-deadlines .ensures) (
-      running-first _ _ _ _ (p .pre .0) (p .pre .1) (p .pre .2) (p .pre .4),
+    let p = c .before .before .before .before .before .before .before .before .before .before .before .before .before in (
+      running-first _ _ _ _ _ (p .pre .0) (p .pre .1) (p .pre .2) (p .pre .4) (c .before .before .before .before .before .before .before .copy-back .ensures .exact ∙ sym (deadlines-column _ _ _ (p .pre .5))),
       space p,
       space p,
       refl,
@@ -64,7 +66,7 @@ pub run-at-once-spec : {M : Type 1} → statement M
 run-at-once-spec =
     tie.close
     (tie.spec
-    fill-deadlines-requires
+    copy-back-requires
     array-borrow-prefix-before
     slice-aggregate-settle-at-once
     array-borrow-prefix-drops

@@ -1,30 +1,32 @@
 -- `run_rounds` starts from the deadlines, which are on the way to its end.
 use borrow.Author.Needs.{needs}
-use mathlib.Core.Path.{sym}
+use mathlib.Core.Path.{sym, _∙_}
 use lib.ListN.{replicate}
 use lib.Seq.{length-take-le}
 use Rattle.model.proofs.Sheet.{few-rows}
+use Rattle.rows.proofs.Layouts.{deadlines-column}
 use Rattle.refinement.proofs.Refinement.{running-first}
 use native.Mathlib.Omega.{arith}
 use Rattle.engines.proofs.run_rounds.Statement.{statement}
 use Rattle.engines.proofs.run_rounds.Tie as tie
 
-fill-deadlines-requires : tie.Need-fill-deadlines-requires
-fill-deadlines-requires c κs = search needs
+copy-back-requires : tie.Need-copy-back-requires
+copy-back-requires c κs =
+    let p = c .before .before .before .before .before in
+    (p .pre .5 .deadlines-each ∙ sym (p .pre .1), p .pre .3)
 
 array-borrow-prefix-next : tie.Need-array-borrow-prefix-next
-array-borrow-prefix-next c = let p = c .before .before .before .before .before .before .before in omega (arith, few-rows _ (p .pre .0))
+array-borrow-prefix-next c = let p = c .before .before .before .before .before .before .before .before .before in omega (arith, few-rows _ (p .pre .0))
 
 slice-aggregate-settle-rounds : tie.Need-slice-aggregate-settle-rounds
 slice-aggregate-settle-rounds c =
-    let p = c .before .before .before .before .before .before .before .before in
+    let p = c .before .before .before .before .before .before .before .before .before .before in
     sym (length-take-le (p .args .count) (replicate 64 0) (omega (arith, p .pre .1, few-rows _ (p .pre .0))))
 
 settle-rounds-requires : tie.Need-settle-rounds-requires
 settle-rounds-requires c κs =
-    let p = c .before .before .before .before .before .before .before .before in
-    rw (c .before .before .before .before .fill-deadlines .ensures) (
-      running-first _ _ _ _ (p .pre .0) (p .pre .1) (p .pre .2) (p .pre .4),
+    let p = c .before .before .before .before .before .before .before .before .before .before in (
+      running-first _ _ _ _ _ (p .pre .0) (p .pre .1) (p .pre .2) (p .pre .4) (c .before .before .before .before .copy-back .ensures .exact ∙ sym (deadlines-column _ _ _ (p .pre .5))),
       length-take-le (p .args .count) (replicate 64 0) (omega (arith, p .pre .1, few-rows _ (p .pre .0))),
       p .pre .5,
     )
@@ -39,7 +41,7 @@ pub run-rounds-spec : {M : Type 1} → statement M
 run-rounds-spec =
     tie.close
     (tie.spec
-    fill-deadlines-requires
+    copy-back-requires
     array-borrow-prefix-next
     slice-aggregate-settle-rounds
     settle-rounds-requires

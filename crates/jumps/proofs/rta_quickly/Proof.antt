@@ -53,8 +53,7 @@ loop-holds : tie.Need-loop-holds Inv-loop μ-loop
 unfolding columns
 loop-holds c =
     let p = c .before .before .before .before .before .before .before .before .before .before .before .before in
-    let sized = row-sized _ (p .pre .0 .rows) (p .args .row) (p .pre .1) in
-    (
+    let sized = row-sized _ (p .pre .0 .rows) (p .args .row) (p .pre .1) in (
       climbed-first _ _ (rtaRight-from-cost _ _ _ _ _),
       sized .by-deadline,
       p .pre .6,

@@ -36,8 +36,7 @@ shared-slice-read-x c = search needs
 loop-holds : tie.Need-loop-holds Inv-loop μ-loop
 unfolding columns
 loop-holds c =
-    let p = c .before .before .before .before .before .before .before in
-    (
+    let p = c .before .before .before .before .before .before .before in (
       climbed-first _ _ (rtaRight-from-cost _ _ _ _ _),
       row-sized _ (p .pre .0 .ready .rows) (p .args .row) (p .pre .0 .inside) .by-deadline,
     )
