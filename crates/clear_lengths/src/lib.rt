@@ -6,8 +6,8 @@ use numbers::lesser;
 use verdict::Look;
 ghost use mathlib.Core.Path.{_≡_};
 ghost use Prim.Native.Nat.{_≤_, _+_, _<_};
-ghost use Rattle.rows.specs.Words.{sheetOf};
-ghost use Rattle.rows.specs.Inner.{Laid};
+ghost use Rattle.model.specs.Sheet.{columns};
+ghost use Rattle.rows.specs.Inner.{Even};
 ghost use Rattle.verdict.specs.Inner.{RowGiven, jobsWithin, lookOf, Given, GroupGiven, NotesGiven, Clear, groupDemand, Narrower};
 ghost use Rattle.laws.specs.Sum.{total};
 ghost use Rattle.model.specs.Demand.{demandOf, demand};
@@ -26,12 +26,12 @@ pub fn jobs_within(length: u32, deadline: u32, period: u32) -> u32
 }
 
 // Looks at the row at a place in the length. Before its first deadline it has no job due.
-pub fn look_at(words: &[u32], row: u32, length: u32) -> Look
-    requires { ⌜ RowGiven (sheetOf (now words)) row length × Laid (now words) ⌝ }
-    ensures { λ r. ⌜ r ≡ lookOf (sheetOf (now (words .entry))) length row ⌝ }
+pub fn look_at(costs: &[u32], deadlines: &[u32], periods: &[u32], row: u32, length: u32) -> Look
+    requires { ⌜ (let s = columns (now costs) (now deadlines) (now periods) in RowGiven s row length × Even (now costs) (now deadlines) (now periods)) ⌝ }
+    ensures { λ r. ⌜ r ≡ lookOf (columns (now (costs .entry)) (now (deadlines .entry)) (now (periods .entry))) length row ⌝ }
 {
-    let at = 3 * (row as usize);
-    let deadline = words[at + 1];
+    let at = row as usize;
+    let deadline = deadlines[at];
     if length < deadline {
         return Look {
             demand: 0,
@@ -39,9 +39,9 @@ pub fn look_at(words: &[u32], row: u32, length: u32) -> Look
             next: deadline,
         };
     }
-    let period = words[at + 2];
+    let period = periods[at];
     let jobs = jobs_within(length, deadline, period);
-    let demand = jobs * words[at];
+    let demand = jobs * costs[at];
     let next = deadline + jobs * period;
     Look {
         demand: demand,
@@ -69,15 +69,22 @@ pub fn later(one: u32, other: u32) -> u32 {
 }
 
 // Looks at so many rows from a place on, in a length.
-pub fn look_at_group(words: &[u32], first: u32, size: u32, length: u32) -> Note
-    requires { ⌜ GroupGiven (sheetOf (now words)) first size length × Laid (now words) ⌝ }
-    ensures { λ r. ⌜ r .demand ≡ total (λ j. demandOf (sheetOf (now (words .entry))) length (first + j)) size ⌝ }
+pub fn look_at_group(
+    costs: &[u32],
+    deadlines: &[u32],
+    periods: &[u32],
+    first: u32,
+    size: u32,
+    length: u32,
+) -> Note
+    requires { ⌜ (let s = columns (now costs) (now deadlines) (now periods) in GroupGiven s first size length × Even (now costs) (now deadlines) (now periods)) ⌝ }
+    ensures { λ r. ⌜ r .demand ≡ total (λ j. demandOf (columns (now (costs .entry)) (now (deadlines .entry)) (now (periods .entry))) length (first + j)) size ⌝ }
 {
     let mut demand = 0;
     let mut since = 0;
     let mut place = 0;
     while place < size {
-        let look = look_at(words, first + place, length);
+        let look = look_at(costs, deadlines, periods, first + place, length);
         demand += look.demand;
         since = later(since, look.since);
         place += 1;
@@ -90,23 +97,32 @@ pub fn look_at_group(words: &[u32], first: u32, size: u32, length: u32) -> Note
 
 // At least a group's demand: as noted, or noted anew where the length is before the deadline noted.
 pub fn group_demand(
-    words: &[u32],
+    costs: &[u32],
+    deadlines: &[u32],
+    periods: &[u32],
     count: u32,
     group: u32,
     length: u32,
     since: &mut [u32],
     most: &mut [u32],
 ) -> u32
-    requires { ⌜ NotesGiven (sheetOf (now words)) count length (now since) (now most) × (group < 16) × Laid (now words) ⌝ }
-    ensures { λ r. ⌜ (groupDemand (sheetOf (now (words .entry))) length group ≤ r) × (r ≤ 67_108_864) ⌝ }
-    ensures { λ r. ⌜ NotesGiven (sheetOf (now (words .entry))) count length (now (since .exit)) (now (most .exit)) ⌝ }
+    requires { ⌜ (let s = columns (now costs) (now deadlines) (now periods) in NotesGiven s count length (now since) (now most) × (group < 16) × Even (now costs) (now deadlines) (now periods)) ⌝ }
+    ensures { λ r. ⌜ (groupDemand (columns (now (costs .entry)) (now (deadlines .entry)) (now (periods .entry))) length group ≤ r) × (r ≤ 67_108_864) ⌝ }
+    ensures { λ r. ⌜ NotesGiven (columns (now (costs .entry)) (now (deadlines .entry)) (now (periods .entry))) count length (now (since .exit)) (now (most .exit)) ⌝ }
 {
     let at = group as usize;
     if since[at] <= length {
         return most[at];
     }
     let first = 4 * group;
-    let note = look_at_group(words, first, lesser(4, less(count, first)), length);
+    let note = look_at_group(
+        costs,
+        deadlines,
+        periods,
+        first,
+        lesser(4, less(count, first)),
+        length,
+    );
     since[at] = note.since;
     most[at] = note.demand;
     note.demand
@@ -114,20 +130,22 @@ pub fn group_demand(
 
 // At least the sheet's demand.
 pub fn noted_demand(
-    words: &[u32],
+    costs: &[u32],
+    deadlines: &[u32],
+    periods: &[u32],
     count: u32,
     length: u32,
     since: &mut [u32],
     most: &mut [u32],
 ) -> u32
-    requires { ⌜ NotesGiven (sheetOf (now words)) count length (now since) (now most) × Laid (now words) ⌝ }
-    ensures { λ r. ⌜ demand (sheetOf (now (words .entry))) length ≤ r ⌝ }
-    ensures { λ r. ⌜ NotesGiven (sheetOf (now (words .entry))) count length (now (since .exit)) (now (most .exit)) ⌝ }
+    requires { ⌜ (let s = columns (now costs) (now deadlines) (now periods) in NotesGiven s count length (now since) (now most) × Even (now costs) (now deadlines) (now periods)) ⌝ }
+    ensures { λ r. ⌜ demand (columns (now (costs .entry)) (now (deadlines .entry)) (now (periods .entry))) length ≤ r ⌝ }
+    ensures { λ r. ⌜ NotesGiven (columns (now (costs .entry)) (now (deadlines .entry)) (now (periods .entry))) count length (now (since .exit)) (now (most .exit)) ⌝ }
 {
     let mut sum = 0;
     let mut group = 0;
     while 4 * group < count {
-        sum += group_demand(words, count, group, length, since, most);
+        sum += group_demand(costs, deadlines, periods, count, group, length, since, most);
         group += 1;
     }
     sum
@@ -135,19 +153,21 @@ pub fn noted_demand(
 
 // How far down backward steps come from the high length: to the low one or below it, or to the first whose demand is above it.
 pub fn clear_down_to(
-    words: &[u32],
+    costs: &[u32],
+    deadlines: &[u32],
+    periods: &[u32],
     count: u32,
     low: u32,
     high: u32,
     since: &mut [u32],
     most: &mut [u32],
 ) -> u32
-    requires { ⌜ NotesGiven (sheetOf (now words)) count high (now since) (now most) × Laid (now words) ⌝ }
-    ensures { λ r. ⌜ (r ≤ high) × Clear (sheetOf (now (words .entry))) r high ⌝ }
+    requires { ⌜ (let s = columns (now costs) (now deadlines) (now periods) in NotesGiven s count high (now since) (now most) × Even (now costs) (now deadlines) (now periods)) ⌝ }
+    ensures { λ r. ⌜ (r ≤ high) × Clear (columns (now (costs .entry)) (now (deadlines .entry)) (now (periods .entry))) r high ⌝ }
 {
     let mut length = high;
     while low < length {
-        let sum = noted_demand(words, count, length, since, most);
+        let sum = noted_demand(costs, deadlines, periods, count, length, since, most);
         if length < sum {
             return length;
         }
@@ -157,13 +177,30 @@ pub fn clear_down_to(
 }
 
 // Narrows a gap by backward steps from a length within it. Nothing is noted at the start, so every group is looked at in that length.
-pub fn narrowed(words: &[u32], count: u32, clear: u32, stopped: u32, middle: u32) -> Gap
-    requires { ⌜ Given (sheetOf (now words)) count middle × (clear < middle) × (middle < stopped) × Laid (now words) ⌝ }
-    ensures { λ r. ⌜ Narrower (sheetOf (now (words .entry))) clear stopped (r .clear) (r .stopped) ⌝ }
+pub fn narrowed(
+    costs: &[u32],
+    deadlines: &[u32],
+    periods: &[u32],
+    count: u32,
+    clear: u32,
+    stopped: u32,
+    middle: u32,
+) -> Gap
+    requires { ⌜ (let s = columns (now costs) (now deadlines) (now periods) in Given s count middle × (clear < middle) × (middle < stopped) × Even (now costs) (now deadlines) (now periods)) ⌝ }
+    ensures { λ r. ⌜ Narrower (columns (now (costs .entry)) (now (deadlines .entry)) (now (periods .entry))) clear stopped (r .clear) (r .stopped) ⌝ }
 {
     let mut since = [16_777_217u32; 16];
     let mut most = [67_108_864u32; 16];
-    let reached = clear_down_to(words, count, clear, middle, &mut since, &mut most);
+    let reached = clear_down_to(
+        costs,
+        deadlines,
+        periods,
+        count,
+        clear,
+        middle,
+        &mut since,
+        &mut most,
+    );
     if reached <= clear {
         Gap {
             clear: middle,
@@ -178,15 +215,15 @@ pub fn narrowed(words: &[u32], count: u32, clear: u32, stopped: u32, middle: u32
 }
 
 // A length up to which all are clear: the whole range is tried first, then half of each gap that is left.
-pub fn clear_up_to(words: &[u32], count: u32, last: u32) -> u32
-    requires { ⌜ Given (sheetOf (now words)) count last × Laid (now words) ⌝ }
-    ensures { λ r. ⌜ (r ≤ last) × Clear (sheetOf (now (words .entry))) 0 r ⌝ }
+pub fn clear_up_to(costs: &[u32], deadlines: &[u32], periods: &[u32], count: u32, last: u32) -> u32
+    requires { ⌜ (let s = columns (now costs) (now deadlines) (now periods) in Given s count last × Even (now costs) (now deadlines) (now periods)) ⌝ }
+    ensures { λ r. ⌜ (r ≤ last) × Clear (columns (now (costs .entry)) (now (deadlines .entry)) (now (periods .entry))) 0 r ⌝ }
 {
     let mut clear = 0;
     let mut stopped = last + 1;
     let mut middle = last;
     while clear < middle {
-        let gap = narrowed(words, count, clear, stopped, middle);
+        let gap = narrowed(costs, deadlines, periods, count, clear, stopped, middle);
         clear = gap.clear;
         stopped = gap.stopped;
         middle = clear + (stopped - clear) / 2;

@@ -6,8 +6,8 @@ use rows::Found;
 use verdict::Outcome;
 ghost use mathlib.Core.Path.{_≡_};
 ghost use Rattle.model.specs.Demand.{verdict};
-ghost use Rattle.rows.specs.Words.{sheetOf};
-ghost use Rattle.rows.specs.Inner.{Laid};
+ghost use Rattle.model.specs.Sheet.{columns};
+ghost use Rattle.rows.specs.Inner.{Even};
 ghost use Rattle.verdict.specs.OneProcessor.{outcomeOf};
 ghost use Rattle.verdict.specs.Inner.{BusyGiven, furthest, withoutMiss};
 
@@ -33,12 +33,19 @@ pub(crate) fn without_miss(busy: Found) -> Outcome
 
 // What the horizon shows, given the busy length within it. The lengths up to the first that backward steps leave open are clear; behind
 // it each length looked at is a deadline of some row, and none lies behind the busy length.
-pub(crate) fn outcome_within(words: &[u32], count: u32, horizon: u32, busy: Found) -> Outcome
-    requires { ⌜ BusyGiven (sheetOf (now words)) count horizon busy × Laid (now words) ⌝ }
-    ensures { λ r. ⌜ r ≡ outcomeOf (verdict (sheetOf (now (words .entry))) horizon) ⌝ }
+pub(crate) fn outcome_within(
+    costs: &[u32],
+    deadlines: &[u32],
+    periods: &[u32],
+    count: u32,
+    horizon: u32,
+    busy: Found,
+) -> Outcome
+    requires { ⌜ (let s = columns (now costs) (now deadlines) (now periods) in BusyGiven s count horizon busy × Even (now costs) (now deadlines) (now periods)) ⌝ }
+    ensures { λ r. ⌜ r ≡ outcomeOf (verdict (columns (now (costs .entry)) (now (deadlines .entry)) (now (periods .entry))) horizon) ⌝ }
 {
     let last = last_length(busy, horizon);
-    let mut length = clear_up_to(words, count, last) + 1;
+    let mut length = clear_up_to(costs, deadlines, periods, count, last) + 1;
     'lengths: loop {
         if last < length {
             break 'lengths without_miss(busy);
@@ -47,7 +54,7 @@ pub(crate) fn outcome_within(words: &[u32], count: u32, horizon: u32, busy: Foun
         let mut next = last + 1;
         let mut row = 0;
         while row < count {
-            let look = look_at(words, row, length);
+            let look = look_at(costs, deadlines, periods, row, length);
             sum += look.demand;
             if length < sum {
                 break 'lengths Outcome::Miss(length);

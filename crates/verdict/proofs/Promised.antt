@@ -14,11 +14,14 @@ use Rattle.model.specs.Alike.{Alike}
 use Rattle.model.proofs.Alike.{verdict-alike}
 use Rattle.model.proofs.Demand.{allowed-verdict-means, verdict-fixed}
 use Rattle.rows.specs.declared.Refusal.{Refusal}
+use Rattle.rows.specs.Checks.{refused}
+use Rattle.rows.specs.Layouts.{Lent, shapeRefusal, SameRows}
 use Rattle.rows.proofs.Alike.{laid-refusal-alike}
+use Rattle.rows.proofs.Checks.{shape-refused}
 use Rattle.verdict.specs.declared.Outcome.{Outcome}
 use Rattle.verdict.specs.declared.Outcome.the-variants.{Miss, Fits, Undecided}
 use Rattle.verdict.specs.declared.Answer.{Answer}
-use Rattle.verdict.specs.OneProcessor.{oneProcessorRefusalOf, outcomeOf, verdictOf, outcomeNumber, outcomeValue, refusedAnswer, answered, oneProcessorOf, Testable, Promise}
+use Rattle.verdict.specs.OneProcessor.{oneProcessorRefusalOf, outcomeOf, verdictOf, outcomeNumber, outcomeValue, refusedAnswer, answered, oneProcessorOf, oneProcessorIn, Testable, Promise}
 use Rattle.verdict.proofs.Checked.{checked, checked-passes}
 
 -- A verdict in the code's words is read back as itself, and an outcome too.
@@ -164,3 +167,20 @@ pub one-processor-alike : (s t : Sheet) → Alike s t → (refusal : Refusal) (h
 unfolding oneProcessorOf
 one-processor-alike s t alike refusal h =
     ap (λ (v : Verdict). unlessRefused (refusal .number) (refusedAnswer refusal) (answered v)) (verdict-alike s t alike h)
+
+-- So the same rows have one answer, whatever their layouts.
+pub one-processor-same : (one other : Lent) → SameRows one other → (h : ℕ) → oneProcessorIn one h ≡ oneProcessorIn other h
+one-processor-same one other same h =
+    let s = one .sheet in
+    let t = other .sheet in
+    one-processor-alike s t (same .alike) _ h
+    ∙ ap (λ (r : Refusal). oneProcessorOf r t h)
+    (ap (λ (broken : Bool). oneProcessorRefusalOf broken s h) (same .layout) ∙ one-processor-refusal-alike s t (same .alike) (other .broken) h)
+
+-- Rows that 2 or 3 refuses are answered so, whatever the horizon.
+pub one-processor-shape-refused : (lent : Lent) (h : ℕ) → (shapeRefusal lent ≡ 0 → ⊥)
+    → oneProcessorIn lent h ≡ refusedAnswer (refused (shapeRefusal lent) 0)
+unfolding oneProcessorRefusalOf
+one-processor-shape-refused lent h held =
+    let by-shape = shape-refused lent _ held in
+    ap (λ (r : Refusal). oneProcessorOf r (lent .sheet) h) by-shape ∙ answer-refused (refused (shapeRefusal lent) 0) (lent .sheet) h held

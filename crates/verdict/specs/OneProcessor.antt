@@ -7,8 +7,8 @@ use Rattle.laws.specs.Choice.{pick, unlessRefused}
 use Rattle.model.specs.Sheet.{Sheet, Allowed, horizonAllowed}
 use Rattle.model.specs.Demand.{Verdict, miss, fits, undecided, verdict, Means}
 use Rattle.rows.specs.declared.Refusal.{Refusal}
-use Rattle.rows.specs.Words.{sheetOf}
-use Rattle.rows.specs.Checks.{firstHeld, laidRefusal, notWhole}
+use Rattle.rows.specs.Checks.{firstHeld, laidRefusal}
+use Rattle.rows.specs.Layouts.{Lent, inTriples}
 use Rattle.verdict.specs.declared.Outcome.{Outcome}
 use Rattle.verdict.specs.declared.Outcome.the-variants.{Miss, Fits, Undecided}
 use Rattle.verdict.specs.declared.Answer.{Answer}
@@ -56,9 +56,13 @@ answered v = record { refusal = 0; place = 0; outcome = outcomeOf v }
 unfoldable pub oneProcessorOf : Refusal → Sheet → ℕ → Answer
 oneProcessorOf refusal s horizon = unlessRefused (refusal .number) (refusedAnswer refusal) (answered (verdict s horizon))
 
+-- The whole answer of rows, in whatever layout.
+abbrev pub oneProcessorIn : Lent → ℕ → Answer
+oneProcessorIn lent horizon = oneProcessorOf (oneProcessorRefusalOf (lent .broken) (lent .sheet) horizon) (lent .sheet) horizon
+
 -- The whole answer of rows in a word list.
 abbrev pub oneProcessor : List ℕ → ℕ → Answer
-oneProcessor words horizon = oneProcessorOf (oneProcessorRefusalOf (notWhole words) (sheetOf words) horizon) (sheetOf words) horizon
+oneProcessor words horizon = oneProcessorIn (inTriples words) horizon
 
 -- What a test that is not refused was given: a layout that is not broken, a sheet of allowed sizes and a horizon from 1 to 16,777,216.
 pub record Testable (broken : Bool) (s : Sheet) (horizon : ℕ) : Type 0 where

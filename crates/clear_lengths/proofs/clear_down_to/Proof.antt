@@ -4,38 +4,38 @@ use borrow.Author.Needs.{needs}
 use mathlib.Core.Path.{sym, _∙_}
 use Prim.Native.Nat.{_≤_}
 use native.Mathlib.Omega.{arith}
-use Rattle.rows.specs.Words.{sheetOf}
+use Rattle.model.specs.Sheet.{columns}
 use Rattle.verdict.specs.Inner.{Clear, NotesGiven}
 use Rattle.verdict.proofs.Backward.{step-back, notes-shorter}
 use Rattle.clear_lengths.proofs.clear_down_to.Statement.{statement}
 use Rattle.clear_lengths.proofs.clear_down_to.Tie as tie
 
 abbrev Inv-loop : tie.InvT-loop
-Inv-loop words count low high since₀ most₀ length₀ since most length =
-    (length ≤ high) × Clear (sheetOf words) length high × NotesGiven (sheetOf words) count length since most
+Inv-loop costs deadlines periods count low high since₀ most₀ length₀ since most length =
+    (length ≤ high) × Clear (columns costs deadlines periods) length high × NotesGiven (columns costs deadlines periods) count length since most
 
 abbrev μ-loop : tie.MeasureT-loop
-μ-loop words count low high since₀ most₀ length₀ since most length = length
+μ-loop costs deadlines periods count low high since₀ most₀ length₀ since most length = length
 
 loop-holds : tie.Need-loop-holds Inv-loop μ-loop
-loop-holds c = (omega arith, λ u behind upto. absurd (omega arith), c .before .before .before .pre .0)
+loop-holds c = (omega arith, λ u behind upto. absurd (omega arith), c .before .before .before .before .before .pre .0)
 
 noted-demand-requires : tie.Need-noted-demand-requires Inv-loop μ-loop
 noted-demand-requires c κs =
     let q = c .before .before .before in
-    (q .loop .inv .2, q .before .before .before .before .pre .1)
+    (q .loop .inv .2, q .before .before .before .before .before .before .pre .1)
 
 same-length : tie.Need-same-length Inv-loop μ-loop
 same-length c =
     let look = c .before .before .before .before .before in
     look .noted-demand .ensures .1 .room
-    ∙ sym (look .before .before .before .before .before .before .before .before .pre .0 .room)
+    ∙ sym (look .before .before .before .before .before .before .before .before .before .before .pre .0 .room)
 
 same-length-2 : tie.Need-same-length-2 Inv-loop μ-loop
 same-length-2 c =
     let look = c .before .before .before .before .before in
     look .noted-demand .ensures .1 .noted .room
-    ∙ sym (look .before .before .before .before .before .before .before .before .pre .0 .noted .room)
+    ∙ sym (look .before .before .before .before .before .before .before .before .before .before .pre .0 .noted .room)
 
 returns : tie.Need-returns Inv-loop μ-loop
 returns c = let q = c .before .before .before .before .before .before .before .before .before .loop in (q .inv .0, q .inv .1)
@@ -58,10 +58,10 @@ loop-again c =
     )
 
 same-length-3 : tie.Need-same-length-3 Inv-loop μ-loop
-same-length-3 c = c .before .loop .inv .2 .room ∙ sym (c .before .before .before .before .before .pre .0 .room)
+same-length-3 c = c .before .loop .inv .2 .room ∙ sym (c .before .before .before .before .before .before .before .pre .0 .room)
 
 same-length-4 : tie.Need-same-length-4 Inv-loop μ-loop
-same-length-4 c = c .before .loop .inv .2 .noted .room ∙ sym (c .before .before .before .before .before .pre .0 .noted .room)
+same-length-4 c = c .before .loop .inv .2 .noted .room ∙ sym (c .before .before .before .before .before .before .before .pre .0 .noted .room)
 
 returns-2 : tie.Need-returns-2 Inv-loop μ-loop
 returns-2 c = let q = c .before .loop in (q .inv .0, q .inv .1)

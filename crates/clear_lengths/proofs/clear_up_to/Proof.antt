@@ -2,7 +2,7 @@
 -- the next length to try lies before its upper end. The measure is the gap.
 use Prim.Native.Nat.{_+_, _-_, _≤_, _<_}
 use native.Mathlib.Omega.{arith}
-use Rattle.rows.specs.Words.{sheetOf}
+use Rattle.model.specs.Sheet.{columns}
 use Rattle.verdict.specs.Inner.{Clear}
 use Rattle.verdict.proofs.Sound.{shorter-given}
 use Rattle.verdict.proofs.Backward.{clear-on}
@@ -10,21 +10,21 @@ use Rattle.clear_lengths.proofs.clear_up_to.Statement.{statement}
 use Rattle.clear_lengths.proofs.clear_up_to.Tie as tie
 
 abbrev Inv-loop : tie.InvT-loop
-Inv-loop words count last clear₀ stopped₀ middle₀ clear stopped middle =
-    (clear < stopped) × (stopped ≤ last + 1) × (middle < stopped) × Clear (sheetOf words) 0 clear
+Inv-loop costs deadlines periods count last clear₀ stopped₀ middle₀ clear stopped middle =
+    (clear < stopped) × (stopped ≤ last + 1) × (middle < stopped) × Clear (columns costs deadlines periods) 0 clear
 
 abbrev μ-loop : tie.MeasureT-loop
-μ-loop words count last clear₀ stopped₀ middle₀ clear stopped middle = stopped - clear
+μ-loop costs deadlines periods count last clear₀ stopped₀ middle₀ clear stopped middle = stopped - clear
 
 add-stopped : tie.Need-add-stopped Inv-loop μ-loop
-add-stopped c = let within = c .before .pre .0 .within in omega arith
+add-stopped c = let within = c .before .before .before .pre .0 .within in omega arith
 
 loop-holds : tie.Need-loop-holds Inv-loop μ-loop
 loop-holds c = (omega arith, omega arith, omega arith, λ u from upto. absurd (omega arith))
 
 narrowed-requires : tie.Need-narrowed-requires Inv-loop μ-loop
 narrowed-requires c κs =
-    let p = c .before .before .before in
+    let p = c .before .before .before .before .before in
     (shorter-given _ _ _ (p .pre .0) _ (omega arith), c .loop-test .taken, c .before .loop .inv .2, p .pre .1)
 
 sub-middle : tie.Need-sub-middle Inv-loop μ-loop
@@ -33,7 +33,7 @@ sub-middle c = let gap = c .narrowed .ensures in omega arith
 add-middle : tie.Need-add-middle Inv-loop μ-loop
 add-middle c =
     let gap = c .narrowed .ensures in
-    let within = c .before .before .before .before .pre .0 .within in
+    let within = c .before .before .before .before .before .before .pre .0 .within in
     omega arith
 
 loop-less : tie.Need-loop-less Inv-loop μ-loop

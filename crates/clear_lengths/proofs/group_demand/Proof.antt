@@ -2,6 +2,7 @@
 use borrow.Author.Needs.{needs}
 use mathlib.Core.Path.{sym}
 use native.Mathlib.Nat.{le-of-eq}
+use native.Mathlib.Omega.{arith}
 use Rattle.verdict.proofs.Sound.{demand-small}
 use Rattle.verdict.proofs.Backward.{group-shown, group-small, notes-anew}
 use Rattle.clear_lengths.proofs.group_demand.Statement.{statement}
@@ -21,7 +22,7 @@ slice-read-result c = search needs
 
 returns : tie.Need-returns
 returns c =
-    let p = c .before .before .before .before .before .before in
+    let p = c .before .before .before .before .before .before .before .before in
     let notes = p .pre .0 .noted in
     ((notes .enough (p .args .group) (p .pre .1), notes .small (p .args .group) (p .pre .1)), p .pre .0)
 
@@ -35,7 +36,10 @@ lesser-requires : tie.Need-lesser-requires
 lesser-requires c κs = search needs
 
 look-at-group-requires : tie.Need-look-at-group-requires
-look-at-group-requires c κs = search needs
+look-at-group-requires c κs =
+    let p = c .before .before .before .before .before .before .before .before .before in
+    let given = p .pre .0 .given in
+    (record { sizes = given .sizes; here = omega (arith, given .counted); within = given .within }, p .pre .2)
 
 mul-since : tie.Need-mul-since
 mul-since c = search needs
@@ -57,7 +61,7 @@ same-length-2 c = search needs
 
 returns-2 : tie.Need-returns-2
 returns-2 c =
-    let p = c .before .before .before .before .before .before .before .before in
+    let p = c .before .before .before .before .before .before .before .before .before .before in
     let given = p .pre .0 .given in
     let exact =
     group-shown _ _ (p .args .group) (given .counted) (c .before .before .less .ensures) (c .before .lesser .ensures) (c .look-at-group .ensures) in (

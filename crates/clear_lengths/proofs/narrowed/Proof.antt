@@ -14,7 +14,7 @@ slice-aggregate-clear-down-to-2 c = search needs
 
 clear-down-to-requires : tie.Need-clear-down-to-requires
 clear-down-to-requires c κs =
-    let p = c .before .before .before in
+    let p = c .before .before .before .before .before in
     (notes-first _ _ _ (p .pre .0), p .pre .3)
 
 returns : tie.Need-returns

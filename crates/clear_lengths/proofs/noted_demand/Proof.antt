@@ -2,22 +2,22 @@
 use borrow.Author.Needs.{needs}
 use Prim.Native.Nat.{_-_, _<_}
 use native.Mathlib.Omega.{arith}
+use Rattle.model.specs.Sheet.{columns}
 use Rattle.model.proofs.Sheet.{few-rows}
-use Rattle.rows.specs.Words.{sheetOf}
 use Rattle.verdict.specs.Inner.{NotesGiven}
 use Rattle.verdict.proofs.Backward.{Summed, summed-none, summed-more, summed-all}
 use Rattle.clear_lengths.proofs.noted_demand.Statement.{statement}
 use Rattle.clear_lengths.proofs.noted_demand.Tie as tie
 
 abbrev Inv-loop : tie.InvT-loop
-Inv-loop words count length since₀ most₀ sum₀ group₀ since most sum group =
-    Summed (sheetOf words) length group sum × NotesGiven (sheetOf words) count length since most
+Inv-loop costs deadlines periods count length since₀ most₀ sum₀ group₀ since most sum group =
+    Summed (columns costs deadlines periods) length group sum × NotesGiven (columns costs deadlines periods) count length since most
 
 abbrev μ-loop : tie.MeasureT-loop
-μ-loop words count length since₀ most₀ sum₀ group₀ since most sum group = 16 - group
+μ-loop costs deadlines periods count length since₀ most₀ sum₀ group₀ since most sum group = 16 - group
 
 loop-holds : tie.Need-loop-holds Inv-loop μ-loop
-loop-holds c = (summed-none _ _, c .before .before .before .pre .0)
+loop-holds c = (summed-none _ _, c .before .before .before .before .before .pre .0)
 
 mul-loop : tie.Need-mul-loop Inv-loop μ-loop
 mul-loop c = let few = c .loop .inv .0 .few in omega arith
@@ -31,7 +31,7 @@ here c =
 group-demand-requires : tie.Need-group-demand-requires Inv-loop μ-loop
 group-demand-requires c κs =
     let q = c .before .before .before in
-    (q .loop .inv .1, here (c .before .before), q .before .before .before .before .pre .1)
+    (q .loop .inv .1, here (c .before .before), q .before .before .before .before .before .before .pre .1)
 
 add-sum : tie.Need-add-sum Inv-loop μ-loop
 add-sum c =

@@ -3,8 +3,9 @@
 use mathlib.Core.Path.{sym, _∙_, ap}
 use Prim.Native.Nat.{_+_, _-_}
 use native.Mathlib.Omega.{arith}
+use Rattle.model.specs.Sheet.{columns}
 use Rattle.model.specs.Demand.{busy, busyLength}
-use Rattle.rows.specs.Words.{sheetOf, foundOf}
+use Rattle.rows.specs.Words.{foundOf}
 use Rattle.laws.proofs.Climb.{Climbed, climbed-first, climbed-more, climbed-found, climbed-past}
 use Rattle.verdict.proofs.Busy.{busy-mono}
 use Rattle.verdict.proofs.Sound.{shorter-given, busy-from-one}
@@ -12,17 +13,17 @@ use Rattle.demand.proofs.climb.busy_length.Statement.{statement}
 use Rattle.demand.proofs.climb.busy_length.Tie as tie
 
 abbrev Inv-loop : tie.InvT-loop
-Inv-loop words count horizon length₀ length = Climbed (busy (sheetOf words)) 1 length
+Inv-loop costs deadlines periods count horizon length₀ length = Climbed (busy (columns costs deadlines periods)) 1 length
 
 abbrev μ-loop : tie.MeasureT-loop
-μ-loop words count horizon length₀ length = horizon + 1 - length
+μ-loop costs deadlines periods count horizon length₀ length = horizon + 1 - length
 
 loop-holds : tie.Need-loop-holds Inv-loop μ-loop
-loop-holds c = climbed-first _ 1 (busy-from-one _ _ _ (c .before .pre .0))
+loop-holds c = climbed-first _ 1 (busy-from-one _ _ _ (c .before .before .before .pre .0))
 
 busy-sum-requires : tie.Need-busy-sum-requires Inv-loop μ-loop
 busy-sum-requires c κs =
-    let p = c .before .before .before in
+    let p = c .before .before .before .before .before in
     let climbed = c .before .loop .inv in
     (shorter-given _ _ _ (p .pre .0) _ (omega arith), omega arith, p .pre .1)
 
