@@ -8,7 +8,6 @@ use layout::take_apart;
 use lengths::outcome_within;
 use rows::range_refusal;
 use rows::row_count;
-use rows::shape_refusal;
 use verdict::Answer;
 use verdict::Outcome;
 ghost use mathlib.Core.Path.{_≡_};
@@ -52,7 +51,10 @@ pub fn one_processor_columns(
 pub fn one_processor(words: &[u32], horizon: u32) -> Answer
     ensures { λ r. ⌜ r ≡ oneProcessor (now (words .entry)) horizon ⌝ }
 {
-    let shape = shape_refusal(words);
+    let mut costs = [0u32; 64];
+    let mut deadlines = [0u32; 64];
+    let mut periods = [0u32; 64];
+    let shape = take_apart(words, &mut costs, &mut deadlines, &mut periods);
     if shape != 0 {
         return Answer {
             refusal: shape,
@@ -60,15 +62,6 @@ pub fn one_processor(words: &[u32], horizon: u32) -> Answer
             outcome: Outcome::Undecided,
         };
     }
-    let mut costs = [0u32; 64];
-    let mut deadlines = [0u32; 64];
-    let mut periods = [0u32; 64];
     let end = row_count(words);
-    take_apart(
-        words,
-        &mut costs[..end],
-        &mut deadlines[..end],
-        &mut periods[..end],
-    );
     one_processor_columns(&costs[..end], &deadlines[..end], &periods[..end], horizon)
 }

@@ -3,15 +3,16 @@ use rows::Found;
 use rows::Refusal;
 use rows::first_of;
 use rows::row_allowed;
+use rows::row_count;
+use rows::shape_refusal;
 ghost use mathlib.Core.Path.{_≡_};
 ghost use Prim.Native.Nat.{_≤_, _<_};
 ghost use lib.ListN.{length};
-ghost use Rattle.laws.specs.Fill.{listed};
 ghost use Rattle.model.specs.Sheet.{columns, rowAllowedAt};
 ghost use Rattle.rows.specs.Words.{sheetOf, firstOutside, foundOf};
 ghost use Rattle.rows.specs.Checks.{laidRefusal};
-ghost use Rattle.rows.specs.Layouts.{uneven, inColumns, shapeRefusal};
-ghost use Rattle.rows.specs.Inner.{Laid, Even};
+ghost use Rattle.rows.specs.Layouts.{inTriples, uneven, inColumns, shapeRefusal};
+ghost use Rattle.rows.specs.Inner.{Laid, Even, Apart};
 
 // 2 where the columns are empty or their lengths differ, 3 where they are more than 64 rows, else 0.
 pub fn columns_shape(costs: &[u32], deadlines: &[u32], periods: &[u32]) -> u32
@@ -73,13 +74,16 @@ pub fn columns_refusal(costs: &[u32], deadlines: &[u32], periods: &[u32], betwee
 }
 
 // Takes triples apart: each row's three words go to its place in the columns.
-pub fn take_apart(words: &[u32], costs: &mut [u32], deadlines: &mut [u32], periods: &mut [u32])
-    requires { ⌜ (let n = (sheetOf (now words)) .rows in (n ≤ 64) × (length (now costs) ≡ n) × (length (now deadlines) ≡ n) × (length (now periods) ≡ n) × Laid (now words)) ⌝ }
-    ensures of_costs { λ r. ⌜ now (costs .exit) ≡ listed ((sheetOf (now (words .entry))) .cost) ((sheetOf (now (words .entry))) .rows) ⌝ }
-    ensures of_deadlines { λ r. ⌜ now (deadlines .exit) ≡ listed ((sheetOf (now (words .entry))) .deadline) ((sheetOf (now (words .entry))) .rows) ⌝ }
-    ensures of_periods { λ r. ⌜ now (periods .exit) ≡ listed ((sheetOf (now (words .entry))) .period) ((sheetOf (now (words .entry))) .rows) ⌝ }
+pub fn fill_columns(
+    words: &[u32],
+    costs: &mut [u32],
+    deadlines: &mut [u32],
+    periods: &mut [u32],
+    count: u32,
+)
+    requires { ⌜ (count ≡ (sheetOf (now words)) .rows) × (count ≤ 64) × (length (now costs) ≡ 64) × (length (now deadlines) ≡ 64) × (length (now periods) ≡ 64) × Laid (now words) ⌝ }
+    ensures { λ r. ⌜ Apart (sheetOf (now (words .entry))) (now (costs .exit)) (now (deadlines .exit)) (now (periods .exit)) ⌝ }
 {
-    let count = costs.len() as u32;
     let mut row = 0;
     while row < count {
         let place = row as usize;
@@ -89,4 +93,23 @@ pub fn take_apart(words: &[u32], costs: &mut [u32], deadlines: &mut [u32], perio
         periods[place] = words[at + 2];
         row += 1;
     }
+}
+
+// 2 or 3 where triples are refused so; else 0, and they are taken apart into the front of the columns.
+pub fn take_apart(
+    words: &[u32],
+    costs: &mut [u32],
+    deadlines: &mut [u32],
+    periods: &mut [u32],
+) -> u32
+    requires { ⌜ (length (now costs) ≡ 64) × (length (now deadlines) ≡ 64) × (length (now periods) ≡ 64) ⌝ }
+    ensures shape { λ r. ⌜ r ≡ shapeRefusal (inTriples (now (words .entry))) ⌝ }
+    ensures apart { λ r. ⌜ (r ≡ 0 → Apart (sheetOf (now (words .entry))) (now (costs .exit)) (now (deadlines .exit)) (now (periods .exit))) ⌝ }
+{
+    let shape = shape_refusal(words);
+    if shape != 0 {
+        return shape;
+    }
+    fill_columns(words, costs, deadlines, periods, row_count(words) as u32);
+    0
 }

@@ -1,13 +1,12 @@
 -- Layouts: what even columns are, that a list of rows is the same rows in triples and in columns, and what triples taken apart leave.
 use mathlib.Core.Path.{_≡_, refl, sym, _∙_, ap}
 use mathlib.Core.Bool.{false, not, _&&_}
-use mathlib.Core.List.{List, [], _∷_, _++_}
-use Prim.Native.Nat.{ℕ, _+_, _*_, _/_, _%_, _<_}
+use mathlib.Core.List.{List, [], _∷_}
+use Prim.Native.Nat.{ℕ, _+_, _*_, _/_, _%_, _≤_, _<_}
 use native.Mathlib.Omega.{arith}
 use borrow.Author.Tests.{eq-eqb, eqb-true, not-false}
 use lib.Dec.{eqb}
-use lib.ListN.{length, getD, take}
-use lib.Seq.{take-at}
+use lib.ListN.{length, getD, take, length-take}
 use Rattle.laws.specs.Fill.{listed, joined}
 use Rattle.laws.proofs.Choice.{and-left, and-right, and-both}
 use Rattle.laws.proofs.Fill.{listed-length, listed-at, listed-back, joined-length, joined-at}
@@ -18,7 +17,7 @@ use Rattle.model.proofs.Alike.{alike-back, alike-then}
 use Rattle.rows.specs.Words.{sheetOf}
 use Rattle.rows.specs.Checks.{notWhole}
 use Rattle.rows.specs.Layouts.{Lent, inTriples, uneven, inColumns, shapeRefusal, SameRows, asTriples, asColumns}
-use Rattle.rows.specs.Inner.{Even}
+use Rattle.rows.specs.Inner.{Even, Apart}
 use Rattle.rows.proofs.Checks.{shape-passed}
 
 -- Columns whose lengths do not differ have a word for each row.
@@ -89,16 +88,20 @@ module _ (s : Sheet) where
   pub layouts-same : SameRows (asTriples s) (asColumns s)
   layouts-same = same-then _ laid-out _ (same-back laid-out _ in-triples-same) in-columns-same
 
--- Triples that are neither broken nor too many, taken apart into the front of three columns: the same rows.
-pub taken-apart : (words : List ℕ) (n : ℕ) (costs deadlines periods behind beyond past : List ℕ) → let s = sheetOf words in
-    shapeRefusal (inTriples words) ≡ 0 → n ≡ s .rows
-    → costs ≡ listed (s .cost) (s .rows) → deadlines ≡ listed (s .deadline) (s .rows) → periods ≡ listed (s .period) (s .rows)
-    → SameRows (inTriples words) (inColumns (take n (costs ++ behind)) (take n (deadlines ++ beyond)) (take n (periods ++ past)))
+-- Rows taken apart into columns: each column has a word for each of them.
+pub fronts-there : (s : Sheet) (n : ℕ) (costs deadlines periods : List ℕ) → n ≡ s .rows → Apart s costs deadlines periods
+    → (n ≤ length costs) × (n ≤ length deadlines) × (n ≤ length periods)
+fronts-there s n costs deadlines periods counted apart =
+    (there (s .cost) costs (apart .costs-front), there (s .deadline) deadlines (apart .deadlines-front), there (s .period) periods (apart .periods-front))
+  where
+    there : (f : ℕ → ℕ) (column : List ℕ) → take (s .rows) column ≡ listed f (s .rows) → n ≤ length column
+    there f column front = omega (arith, length-take (s .rows) column, ap length front, listed-length f (s .rows))
+
+-- And where triples are neither broken nor too many, the fronts of the columns say the same rows.
+pub taken-apart : (words : List ℕ) (n : ℕ) (costs deadlines periods : List ℕ) → shapeRefusal (inTriples words) ≡ 0 → n ≡ (sheetOf words) .rows
+    → Apart (sheetOf words) costs deadlines periods → SameRows (inTriples words) (inColumns (take n costs) (take n deadlines) (take n periods))
 unfolding asColumns
-taken-apart words n costs deadlines periods behind beyond past passed counted of-costs of-deadlines of-periods =
-    let s = sheetOf words in
-    let front : (f : ℕ → ℕ) (l rest : List ℕ) → l ≡ listed f (s .rows) → take n (l ++ rest) ≡ listed f (s .rows) =
-    λ f l rest same. ap (λ (a : List ℕ). take n (a ++ rest)) same ∙ take-at (listed f (s .rows)) rest n (listed-length f (s .rows) ∙ sym counted) in
-    let apart = in-columns-same s in
-    rw (front (s .cost) costs behind of-costs, front (s .deadline) deadlines beyond of-deadlines, front (s .period) periods past of-periods)
-    record { layout = shape-passed (inTriples words) passed .0 ∙ apart .layout; alike = apart .alike }
+taken-apart words n costs deadlines periods passed counted apart =
+    let same = in-columns-same (sheetOf words) in
+    rw (counted, apart .costs-front, apart .deadlines-front, apart .periods-front)
+    record { layout = shape-passed (inTriples words) passed .0 ∙ same .layout; alike = same .alike }
