@@ -13,3 +13,4 @@ pub mod Descent
 pub mod Refinement
 pub mod Demands
 pub mod Alike
+pub mod Layouts

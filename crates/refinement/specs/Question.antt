@@ -13,8 +13,9 @@ use Rattle.model.specs.Answer.{methodOf, answer, Answers}
 use Rattle.rows.specs.declared.Found.{Found}
 use Rattle.rows.specs.declared.Found.the-variants.{At, Nowhere}
 use Rattle.rows.specs.declared.Refusal.{Refusal}
-use Rattle.rows.specs.Words.{sheetOf, foundOf}
-use Rattle.rows.specs.Checks.{refused, notRefused, processorsRefusal, methodRefusal, firstHeld, laidRefusal, notWhole}
+use Rattle.rows.specs.Words.{foundOf}
+use Rattle.rows.specs.Checks.{refused, notRefused, processorsRefusal, methodRefusal, firstHeld, laidRefusal}
+use Rattle.rows.specs.Layouts.{Lent, inTriples}
 use Rattle.refinement.specs.declared.OneRow.{OneRow}
 
 -- A bound lies from its row's cost to its deadline.
@@ -41,10 +42,15 @@ oneRowOf refusal s processors method bounds row =
     unlessRefused (refusal .number) (record { refusal = refusal .number; place = refusal .place; answer = Nowhere })
     (record { refusal = 0; place = 0; answer = foundOf (answer (methodOf method) s processors row bounds) })
 
+-- What is answered to rows, in whatever layout they are lent.
+abbrev pub oneRowIn : Lent → ℕ → ℕ → List ℕ → ℕ → OneRow
+oneRowIn lent processors method bounds row =
+    let s = lent .sheet in
+    oneRowOf (oneRowRefusalOf (lent .broken) s processors method bounds row) s processors method bounds row
+
 -- The same of rows in a word list.
 abbrev pub oneRow : List ℕ → ℕ → ℕ → List ℕ → ℕ → OneRow
-oneRow words processors method bounds row =
-    oneRowOf (oneRowRefusalOf (notWhole words) (sheetOf words) processors method bounds row) (sheetOf words) processors method bounds row
+oneRow words processors method bounds row = oneRowIn (inTriples words) processors method bounds row
 
 -- An answer as document 01 says it: a bound, or none.
 unfoldable pub answerOf : Found → Option ℕ

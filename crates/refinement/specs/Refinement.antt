@@ -13,8 +13,8 @@ use Rattle.model.specs.Answer.{methodOf, answer}
 use Rattle.model.specs.Refine.{Ask, rounds, atOnce, marked, marks, Largest}
 use Rattle.rows.specs.declared.Refusal.{Refusal}
 use Rattle.rows.specs.declared.Found.the-variants.{At, Nowhere}
-use Rattle.rows.specs.Words.{sheetOf}
-use Rattle.rows.specs.Checks.{processorsRefusal, methodRefusal, roomRefusal, firstHeld, laidRefusal, notWhole}
+use Rattle.rows.specs.Checks.{processorsRefusal, methodRefusal, roomRefusal, firstHeld, laidRefusal}
+use Rattle.rows.specs.Layouts.{Lent, inTriples}
 use Rattle.refinement.specs.declared.Refined.{Refined}
 use Rattle.refinement.specs.Question.{oneRowRefusalOf, oneRowOf, Posed}
 
@@ -52,16 +52,23 @@ refinedOf engine refusal s processors method =
 unfoldable pub refinedSpaceOf : Engine → Refusal → Sheet → ℕ → ℕ → List ℕ → List ℕ
 refinedSpaceOf engine refusal s processors method out = atFront (refusal .number) (handed engine s processors method) out
 
--- The same of rows in a word list; the room asked for is one word for each row.
-abbrev pub refineRefusal : List ℕ → ℕ → ℕ → ℕ → Refusal
-refineRefusal words processors method room = refineRefusalOf (notWhole words) (sheetOf words) processors method room ((sheetOf words) .rows)
+-- The checks, the answer and the words left of rows, in whatever layout they are lent; the room asked for is one word for each row.
+abbrev pub refineRefusalIn : Lent → ℕ → ℕ → ℕ → Refusal
+refineRefusalIn lent processors method room = refineRefusalOf (lent .broken) (lent .sheet) processors method room ((lent .sheet) .rows)
 
+abbrev pub refinedIn : Engine → Lent → ℕ → ℕ → ℕ → Refined
+refinedIn engine lent processors method room = refinedOf engine (refineRefusalIn lent processors method room) (lent .sheet) processors method
+
+abbrev pub refinedWordsIn : Engine → Lent → ℕ → ℕ → List ℕ → List ℕ
+refinedWordsIn engine lent processors method out =
+    refinedSpaceOf engine (refineRefusalIn lent processors method (length out)) (lent .sheet) processors method out
+
+-- The same of rows in a word list.
 abbrev pub refined : Engine → List ℕ → ℕ → ℕ → ℕ → Refined
-refined engine words processors method room = refinedOf engine (refineRefusal words processors method room) (sheetOf words) processors method
+refined engine words processors method room = refinedIn engine (inTriples words) processors method room
 
 abbrev pub refinedWords : Engine → List ℕ → ℕ → ℕ → List ℕ → List ℕ
-refinedWords engine words processors method out =
-    refinedSpaceOf engine (refineRefusal words processors method (length out)) (sheetOf words) processors method out
+refinedWords engine words processors method out = refinedWordsIn engine (inTriples words) processors method out
 
 -- What a refinement that is not refused was given: what every question is given, and the room that its answer needs.
 pub record Refinable (broken : Bool) (s : Sheet) (processors method room need : ℕ) : Type 0 where

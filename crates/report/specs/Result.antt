@@ -12,7 +12,8 @@ use Rattle.model.specs.Sheet.{Sheet}
 use Rattle.digits.specs.Digits.{number}
 use Rattle.rows.specs.declared.Refusal.{Refusal}
 use Rattle.rows.specs.Words.{sheetOf}
-use Rattle.rows.specs.Checks.{refused, roomRefusal, notWhole}
+use Rattle.rows.specs.Checks.{refused, roomRefusal}
+use Rattle.rows.specs.Layouts.{Lent, inTriples}
 use Rattle.refinement.specs.Refinement.{refineRefusalOf, finalMarks, handed, Refinable}
 use Rattle.grammar.specs.declared.Written.{Written}
 use Rattle.grammar.specs.Grammar.{processorsWritten}
@@ -31,17 +32,24 @@ writeResultOf refusal s = writeAnswer refusal (resultLength (s .rows))
 unfoldable pub resultSpaceOf : Refusal → Sheet → ℕ → ℕ → List ℕ → List ℕ
 resultSpaceOf refusal s processors method out = atFront (refusal .number) (resultOf s processors method) out
 
--- The same of rows in a word list; the checks are those of a refinement whose answer needs 7 + 11n bytes.
-abbrev pub resultRefusal : List ℕ → ℕ → ℕ → ℕ → Refusal
-resultRefusal words processors method room =
-    refineRefusalOf (notWhole words) (sheetOf words) processors method room (resultLength ((sheetOf words) .rows))
+-- The same of rows, in whatever layout they are lent; the checks are those of a refinement whose answer needs 7 + 11n bytes.
+abbrev pub resultRefusalIn : Lent → ℕ → ℕ → ℕ → Refusal
+resultRefusalIn lent processors method room =
+    refineRefusalOf (lent .broken) (lent .sheet) processors method room (resultLength ((lent .sheet) .rows))
 
+abbrev pub writeResultIn : Lent → ℕ → ℕ → ℕ → Written
+writeResultIn lent processors method room = writeResultOf (resultRefusalIn lent processors method room) (lent .sheet)
+
+abbrev pub resultAfterIn : Lent → ℕ → ℕ → List ℕ → List ℕ
+resultAfterIn lent processors method out =
+    resultSpaceOf (resultRefusalIn lent processors method (length out)) (lent .sheet) processors method out
+
+-- The same of rows in a word list.
 abbrev pub writeResult : List ℕ → ℕ → ℕ → ℕ → Written
-writeResult words processors method room = writeResultOf (resultRefusal words processors method room) (sheetOf words)
+writeResult words processors method room = writeResultIn (inTriples words) processors method room
 
 abbrev pub resultAfter : List ℕ → ℕ → ℕ → List ℕ → List ℕ
-resultAfter words processors method out =
-    resultSpaceOf (resultRefusal words processors method (length out)) (sheetOf words) processors method out
+resultAfter words processors method out = resultAfterIn (inTriples words) processors method out
 
 -- What writing it was given where it is not refused: what every question is given, and room for the sheet.
 abbrev pub Reportable : Bool → Sheet → ℕ → ℕ → ℕ → Type 0

@@ -17,7 +17,7 @@ use Rattle.model.proofs.Alike.{alike-back, alike-then}
 use Rattle.rows.specs.Words.{sheetOf}
 use Rattle.rows.specs.Checks.{notWhole}
 use Rattle.rows.specs.Layouts.{Lent, inTriples, uneven, inColumns, shapeRefusal, SameRows, asTriples, asColumns}
-use Rattle.rows.specs.Inner.{Even, Apart}
+use Rattle.rows.specs.Inner.{Even, Apart, Fronts}
 use Rattle.rows.proofs.Checks.{shape-passed}
 
 -- Columns whose lengths do not differ have a word for each row.
@@ -90,9 +90,13 @@ module _ (s : Sheet) where
 
 -- Rows taken apart into columns: each column has a word for each of them.
 pub fronts-there : (s : Sheet) (n : ℕ) (costs deadlines periods : List ℕ) → n ≡ s .rows → Apart s costs deadlines periods
-    → (n ≤ length costs) × (n ≤ length deadlines) × (n ≤ length periods)
+    → Fronts n costs deadlines periods
 fronts-there s n costs deadlines periods counted apart =
-    (there (s .cost) costs (apart .costs-front), there (s .deadline) deadlines (apart .deadlines-front), there (s .period) periods (apart .periods-front))
+    record {
+      costs-there = there (s .cost) costs (apart .costs-front);
+      deadlines-there = there (s .deadline) deadlines (apart .deadlines-front);
+      periods-there = there (s .period) periods (apart .periods-front);
+    }
   where
     there : (f : ℕ → ℕ) (column : List ℕ) → take (s .rows) column ≡ listed f (s .rows) → n ≤ length column
     there f column front = omega (arith, length-take (s .rows) column, ap length front, listed-length f (s .rows))

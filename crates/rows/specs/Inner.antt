@@ -1,7 +1,7 @@
 -- What only inner functions and proofs cite: no user need believe it.
 use mathlib.Core.Path.{_≡_}
 use mathlib.Core.List.{List, [], _∷_}
-use Prim.Native.Nat.{ℕ, _*_}
+use Prim.Native.Nat.{ℕ, _*_, _≤_}
 use lib.ListN.{length, take}
 use Rattle.laws.specs.Fill.{listed}
 use Rattle.model.specs.Sheet.{Sheet, columns}
@@ -22,6 +22,12 @@ pub record Apart (s : Sheet) (costs deadlines periods : List ℕ) : Type 0 where
   pub costs-front : take (s .rows) costs ≡ listed (s .cost) (s .rows)
   pub deadlines-front : take (s .rows) deadlines ≡ listed (s .deadline) (s .rows)
   pub periods-front : take (s .rows) periods ≡ listed (s .period) (s .rows)
+
+-- Each of three columns has at least so many words.
+pub record Fronts (n : ℕ) (costs deadlines periods : List ℕ) : Type 0 where
+  pub costs-there : n ≤ length costs
+  pub deadlines-there : n ≤ length deadlines
+  pub periods-there : n ≤ length periods
 
 -- None of several checks holds.
 abbrev pub NoneHold : List ℕ → Type 0

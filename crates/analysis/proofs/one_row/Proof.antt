@@ -1,60 +1,83 @@
--- `one_row` answers by its refusal, or asks the row: number 0 gives every fact that asking needs.
+-- `one_row` is a thin layer: refused by 2 or 3, or answered as the same rows are in columns.
+use mathlib.Core.Path.{sym, _∙_}
 use borrow.Author.Needs.{needs}
-use mathlib.Core.Path.{_≡_, sym, _∙_, ap}
-use denote.Ref.{now}
-use Rattle.model.proofs.Sheet.{few-rows}
-use Rattle.rows.specs.declared.Found.{Found}
-use Rattle.rows.specs.declared.Refusal.{Refusal}
-use Rattle.rows.specs.Words.{sheetOf}
-use Rattle.rows.specs.Checks.{notWhole}
-use Rattle.rows.proofs.Checks.{words-laid}
-use Rattle.refinement.specs.declared.OneRow.{OneRow}
-use Rattle.refinement.specs.Question.{oneRowRefusalOf, Askable}
-use Rattle.refinement.proofs.Question.{asked, one-row-answered, one-row-refused}
-use native.Mathlib.Omega.{arith}
+use lib.Seq.{length-take-le}
+use Rattle.rows.specs.Inner.{Fronts}
+use Rattle.rows.proofs.Layouts.{fronts-there, taken-apart}
+use Rattle.refinement.proofs.Layouts.{one-row-same, one-row-by-shape}
 use Rattle.analysis.proofs.one_row.Statement.{statement}
 use Rattle.analysis.proofs.one_row.Tie as tie
 
-question-refusal-requires : tie.Need-question-refusal-requires
-question-refusal-requires c κs = search needs
+slice-aggregate-take-apart : tie.Need-slice-aggregate-take-apart
+slice-aggregate-take-apart c = search needs
+
+slice-aggregate-take-apart-2 : tie.Need-slice-aggregate-take-apart-2
+slice-aggregate-take-apart-2 c = search needs
+
+slice-aggregate-take-apart-3 : tie.Need-slice-aggregate-take-apart-3
+slice-aggregate-take-apart-3 c = search needs
+
+take-apart-requires : tie.Need-take-apart-requires
+take-apart-requires c κs = search needs
 
 returns : tie.Need-returns
-returns c = sym (one-row-refused _ _ _ _ _ _ _ (c .before .question-refusal .ensures) (c .if1 .taken))
+returns c =
+    let shape = c .before .before .before .before .take-apart .ensures .0 in
+    sym (one-row-by-shape _ _ _ _ shape (c .if1 .taken) _ _)
 
 row-count-requires : tie.Need-row-count-requires
 row-count-requires c κs = search needs
 
--- Past the test the refusal's number is 0.
-passed : (c : tie.Else1) → let p = c .before .before .before .before in
-    let words = now (p .args .words) in
-    (oneRowRefusalOf (notWhole words) (sheetOf words) (p .args .processors) (p .args .method) (now (p .args .bounds)) (p .args .row)) .number ≡ 0
-passed c = sym (ap (λ (r : Refusal). r .number) (c .before .question-refusal .ensures)) ∙ c .if1 .left
+-- Past the check each column has a word for each row.
+there : (c : tie.After-row-count) → let columns = c .before .before .before .before .before .take-apart .last in
+    Fronts (c .row-count .result) (columns .1 .0) (columns .1 .1 .0) (columns .1 .1 .1 .0)
+there c =
+    fronts-there _ _ _ _ _ (c .row-count .ensures) (c .before .before .before .before .before .take-apart .ensures .1 (c .before .if1 .left))
 
-facts : (c : tie.Else1) → let p = c .before .before .before .before in
-    let words = now (p .args .words) in
-    Askable (notWhole words) (sheetOf words) (p .args .processors) (p .args .method) (now (p .args .bounds)) (p .args .row)
-facts c = asked _ _ _ _ _ _ (passed c)
+array-share-prefix-costs : tie.Need-array-share-prefix-costs
+array-share-prefix-costs c = there c .costs-there
 
-cast-count : tie.Need-cast-count
-cast-count c = omega (arith, few-rows _ (facts (c .before) .posed .sizes))
+slice-aggregate-one-row-columns : tie.Need-slice-aggregate-one-row-columns
+slice-aggregate-one-row-columns c = sym (length-take-le _ _ (there (c .before) .costs-there))
 
-answer-quickly-requires : tie.Need-answer-quickly-requires
-answer-quickly-requires c κs =
-    let known = facts (c .before) in
-    (known .ready, known .there, c .row-count .ensures, known .posed .some-processor, known .posed .few, words-laid _ (known .posed .laid))
+array-share-prefix-deadlines : tie.Need-array-share-prefix-deadlines
+array-share-prefix-deadlines c = there (c .before) .deadlines-there
+
+slice-aggregate-one-row-columns-2 : tie.Need-slice-aggregate-one-row-columns-2
+slice-aggregate-one-row-columns-2 c = sym (length-take-le _ _ (there (c .before .before) .deadlines-there))
+
+array-share-prefix-periods : tie.Need-array-share-prefix-periods
+array-share-prefix-periods c = there (c .before .before) .periods-there
+
+slice-aggregate-one-row-columns-3 : tie.Need-slice-aggregate-one-row-columns-3
+slice-aggregate-one-row-columns-3 c = sym (length-take-le _ _ (there (c .before .before .before) .periods-there))
+
+one-row-columns-requires : tie.Need-one-row-columns-requires
+one-row-columns-requires c κs = search needs
 
 returns-2 : tie.Need-returns-2
 returns-2 c =
-    ap (λ (found : Found). let r : OneRow = record { refusal = 0; place = 0; answer = found } in r) (c .answer-quickly .ensures)
-    ∙ sym (one-row-answered _ _ _ _ _ _ (passed (c .before .before)))
+    let counted = c .before .before .before .before in
+    let apart = counted .before .before .before .before .before .take-apart .ensures in
+    let zero = counted .before .if1 .left in
+    let same = taken-apart _ _ _ _ _ (sym (apart .0) ∙ zero) (counted .row-count .ensures) (apart .1 zero) in
+    c .one-row-columns .ensures ∙ sym (one-row-same _ _ same _ _ _ _)
 
 pub one-row-spec : {M : Type 1} → statement M
 one-row-spec =
     tie.close
     (tie.spec
-    question-refusal-requires
+    slice-aggregate-take-apart
+    slice-aggregate-take-apart-2
+    slice-aggregate-take-apart-3
+    take-apart-requires
     returns
     row-count-requires
-    cast-count
-    answer-quickly-requires
+    array-share-prefix-costs
+    slice-aggregate-one-row-columns
+    array-share-prefix-deadlines
+    slice-aggregate-one-row-columns-2
+    array-share-prefix-periods
+    slice-aggregate-one-row-columns-3
+    one-row-columns-requires
     returns-2)

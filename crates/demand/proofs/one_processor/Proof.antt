@@ -1,11 +1,11 @@
 -- `one_processor` is a thin layer: refused by 2 or 3, or answered as the same rows are in columns.
 use mathlib.Core.Path.{_≡_, sym, _∙_, ap}
-use Prim.Native.Nat.{ℕ, _≤_}
+use Prim.Native.Nat.{ℕ}
 use borrow.Author.Needs.{needs}
-use lib.ListN.{length}
 use lib.Seq.{length-take-le}
-use Rattle.rows.specs.Checks.{refused}
+use Rattle.rows.specs.Inner.{Fronts}
 use Rattle.rows.proofs.Layouts.{fronts-there, taken-apart}
+use Rattle.rows.specs.Checks.{refused}
 use Rattle.verdict.specs.OneProcessor.{refusedAnswer}
 use Rattle.verdict.proofs.Promised.{one-processor-same, one-processor-shape-refused}
 use Rattle.demand.proofs.one_processor.Statement.{statement}
@@ -34,27 +34,27 @@ row-count-requires c κs = search needs
 
 -- Past the check each column has a word for each row.
 there : (c : tie.After-row-count) → let columns = c .before .before .before .before .before .take-apart .last in
-    (c .row-count .result ≤ length (columns .1 .0)) × (c .row-count .result ≤ length (columns .1 .1 .0)) × (c .row-count .result ≤ length (columns .1 .1 .1 .0))
+    Fronts (c .row-count .result) (columns .1 .0) (columns .1 .1 .0) (columns .1 .1 .1 .0)
 there c =
     fronts-there _ _ _ _ _ (c .row-count .ensures) (c .before .before .before .before .before .take-apart .ensures .1 (c .before .if1 .left))
 
 array-share-prefix-costs : tie.Need-array-share-prefix-costs
-array-share-prefix-costs c = there c .0
+array-share-prefix-costs c = there c .costs-there
 
 slice-aggregate-one-processor-columns : tie.Need-slice-aggregate-one-processor-columns
-slice-aggregate-one-processor-columns c = sym (length-take-le _ _ (there (c .before) .0))
+slice-aggregate-one-processor-columns c = sym (length-take-le _ _ (there (c .before) .costs-there))
 
 array-share-prefix-deadlines : tie.Need-array-share-prefix-deadlines
-array-share-prefix-deadlines c = there (c .before) .1
+array-share-prefix-deadlines c = there (c .before) .deadlines-there
 
 slice-aggregate-one-processor-columns-2 : tie.Need-slice-aggregate-one-processor-columns-2
-slice-aggregate-one-processor-columns-2 c = sym (length-take-le _ _ (there (c .before .before) .1))
+slice-aggregate-one-processor-columns-2 c = sym (length-take-le _ _ (there (c .before .before) .deadlines-there))
 
 array-share-prefix-periods : tie.Need-array-share-prefix-periods
-array-share-prefix-periods c = there (c .before .before) .2
+array-share-prefix-periods c = there (c .before .before) .periods-there
 
 slice-aggregate-one-processor-columns-3 : tie.Need-slice-aggregate-one-processor-columns-3
-slice-aggregate-one-processor-columns-3 c = sym (length-take-le _ _ (there (c .before .before .before) .2))
+slice-aggregate-one-processor-columns-3 c = sym (length-take-le _ _ (there (c .before .before .before) .periods-there))
 
 one-processor-columns-requires : tie.Need-one-processor-columns-requires
 one-processor-columns-requires c κs = search needs
@@ -64,8 +64,8 @@ returns-2 c =
     let counted = c .before .before .before .before in
     let apart = counted .before .before .before .before .before .take-apart .ensures in
     let zero = counted .before .if1 .left in
-    c .one-processor-columns .ensures
-    ∙ sym (one-processor-same _ _ (taken-apart _ _ _ _ _ (sym (apart .0) ∙ zero) (counted .row-count .ensures) (apart .1 zero)) _)
+    let same = taken-apart _ _ _ _ _ (sym (apart .0) ∙ zero) (counted .row-count .ensures) (apart .1 zero) in
+    c .one-processor-columns .ensures ∙ sym (one-processor-same _ _ same _)
 
 pub one-processor-spec : {M : Type 1} → statement M
 one-processor-spec =

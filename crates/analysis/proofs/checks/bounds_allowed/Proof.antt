@@ -4,19 +4,19 @@ use mathlib.Core.Path.{_≡_, refl, sym, _∙_, ap}
 use mathlib.Core.Bool.{true}
 use Prim.Native.Nat.{_-_, _≤_}
 use borrow.Author.Tests.{not-true, not-false}
+use Rattle.model.specs.Sheet.{columns}
 use Rattle.laws.specs.Bits.{every}
 use Rattle.laws.proofs.Bits.{every-more, every-fails}
-use Rattle.rows.specs.Words.{sheetOf}
 use Rattle.refinement.specs.Question.{boundAllowed}
 use native.Mathlib.Omega.{arith}
 use Rattle.analysis.proofs.checks.bounds_allowed.Statement.{statement}
 use Rattle.analysis.proofs.checks.bounds_allowed.Tie as tie
 
 abbrev Inv-loop : tie.InvT-loop
-Inv-loop words bounds count row₀ row = (row ≤ count) × (every (boundAllowed (sheetOf words) bounds) row ≡ true)
+Inv-loop costs deadlines periods bounds count row₀ row = (row ≤ count) × (every (boundAllowed (columns costs deadlines periods) bounds) row ≡ true)
 
 abbrev μ-loop : tie.MeasureT-loop
-μ-loop words bounds count row₀ row = count - row
+μ-loop costs deadlines periods bounds count row₀ row = count - row
 
 loop-holds : tie.Need-loop-holds Inv-loop μ-loop
 unfolding every
@@ -46,7 +46,7 @@ loop-again c = (
 returns-2 : tie.Need-returns-2 Inv-loop μ-loop
 returns-2 c =
     let q = c .before .loop in
-    let done : q .row ≡ c .before .before .before .before .args .count = omega arith in
+    let done : q .row ≡ c .before .before .before .before .before .before .args .count = omega arith in
     sym (q .inv .1) ∙ ap (every _) done
 
 pub bounds-allowed-spec : {M : Type 1} → statement M

@@ -5,9 +5,11 @@ use mathlib.Core.List.{[], _∷_}
 use denote.Ref.{now}
 use Rattle.model.proofs.Sheet.{few-rows}
 use Rattle.rows.specs.declared.Refusal.{Refusal}
-use Rattle.rows.specs.Checks.{processorsRefusal, methodRefusal, firstHeld, laidRefusal, wordsRefusal}
+use Rattle.rows.specs.Checks.{processorsRefusal, methodRefusal, firstHeld, laidRefusal}
+use Rattle.rows.specs.Layouts.{Lent, inColumns}
 use Rattle.rows.proofs.Fold.{held-last, held-more}
 use Rattle.rows.proofs.Checks.{accepted}
+use Rattle.rows.proofs.Layouts.{columns-even}
 use Rattle.refinement.proofs.Question.{refused-first, passed-first}
 use Rattle.analysis.proofs.checks.question_refusal.Statement.{statement}
 use Rattle.analysis.proofs.checks.question_refusal.Tie as tie
@@ -21,15 +23,20 @@ method-refusal-requires c κs = search needs
 first-of-requires : tie.Need-first-of-requires
 first-of-requires c κs = search needs
 
-words-refusal-requires : tie.Need-words-refusal-requires
-words-refusal-requires c κs = search needs
+columns-refusal-requires : tie.Need-columns-refusal-requires
+columns-refusal-requires c κs = search needs
 
-first : (c : tie.After-words-refusal) → let p = c .before .before .before .before .before .before in
-    c .words-refusal .result
-    ≡ wordsRefusal (now (p .args .words)) (firstHeld (processorsRefusal (p .args .processors) ∷ methodRefusal (p .args .method) ∷ []))
+-- The lent columns.
+abbrev lent : tie.After-columns-refusal → Lent
+lent c = let a = c .before .before .before .before .before .before .before .before .args in inColumns (now (a .costs)) (now (a .deadlines)) (now (a .periods))
+
+-- What the first checks gave.
+first : (c : tie.After-columns-refusal) → let p = c .before .before .before .before .before .before .before .before in
+    c .columns-refusal .result
+    ≡ laidRefusal ((lent c) .broken) ((lent c) .sheet) (firstHeld (processorsRefusal (p .args .processors) ∷ methodRefusal (p .args .method) ∷ []))
 first c =
     let q = c .before .before in
-    c .words-refusal .ensures
+    c .columns-refusal .ensures
     ∙ ap (laidRefusal _ _) (held-more _ _ (q .before .processors-refusal .ensures) (held-last _ (q .method-refusal .ensures)) (c .before .first-of .ensures))
 
 returns : tie.Need-returns
@@ -37,7 +44,8 @@ returns c = refused-first _ _ _ _ _ _ _ (first (c .before)) (c .if1 .taken)
 
 question-allowed-requires : tie.Need-question-allowed-requires
 question-allowed-requires c κs =
-    few-rows _ (accepted _ _ _ (sym (ap (λ (r : Refusal). r .number) (first (c .before))) ∙ c .if1 .left) .sizes)
+    let known = accepted _ _ _ (sym (ap (λ (r : Refusal). r .number) (first (c .before))) ∙ c .if1 .left) in
+    (few-rows _ (known .sizes), columns-even _ _ _ (known .laid))
 
 returns-2 : tie.Need-returns-2
 returns-2 c =
@@ -56,7 +64,7 @@ question-refusal-spec =
     processors-refusal-requires
     method-refusal-requires
     first-of-requires
-    words-refusal-requires
+    columns-refusal-requires
     returns
     question-allowed-requires
     returns-2
