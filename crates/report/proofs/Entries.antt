@@ -7,13 +7,14 @@ use Prim.Native.Nat.{ℕ, _≤_}
 use native.Mathlib.Omega.{arith}
 use lib.ListN.{length, drop, length-append}
 use Rattle.laws.specs.Fill.{atFront}
-use Rattle.laws.proofs.Fill.{front-put}
+use Rattle.laws.proofs.Fill.{front-put, front-left}
 use Rattle.model.specs.Alike.{Alike}
 use Rattle.model.specs.Refine.{atOnce}
 use Rattle.model.specs.Sheet.{Sheet, Allowed}
 use Rattle.model.proofs.Sheet.{few-rows}
 use Rattle.rows.specs.declared.Refusal.{Refusal}
 use Rattle.rows.specs.Checks.{refused, processorsRefusal, methodRefusal, roomRefusal}
+use Rattle.rows.specs.Layouts.{Lent, shapeRefusal, SameRows}
 use Rattle.rows.proofs.Fold.{others-pass, held-last}
 use Rattle.rows.proofs.Checks as checks
 use Rattle.refinement.specs.declared.Refined.{Refined}
@@ -21,10 +22,13 @@ use Rattle.refinement.specs.Refinement.{refineRefusalOf, finalMarks, handed, re
 use Rattle.refinement.proofs.Refinement.{at-once-length, handed-whole, refine-answered, refining, refinable}
 use Rattle.refinement.proofs.Demands.{at-once-alike}
 use Rattle.refinement.proofs.Alike.{final-marks-alike, handed-alike}
+use Rattle.refinement.proofs.Layouts.{refine-refusal-same, refine-by-shape}
+use Rattle.grammar.specs.declared.Written.{Written}
 use Rattle.grammar.specs.Sheets.{writeAnswer}
+use Rattle.grammar.proofs.Refusals.{write-refused}
 use Rattle.grammar.proofs.Entries.{written-number}
 use Rattle.report.specs.Lines.{resultLength, resultBytes}
-use Rattle.report.specs.Result.{resultOf, Reportable, writeResultOf, resultSpaceOf}
+use Rattle.report.specs.Result.{resultOf, Reportable, writeResultOf, resultSpaceOf, writeResultIn, resultAfterIn}
 use Rattle.report.proofs.Text.{text-front, result-length}
 
 -- A result sheet has the length that its rows say.
@@ -104,3 +108,29 @@ module _ (s t : Sheet) (alike : Alike s t) (refusal : Refusal) where
       ap (λ (l : List ℕ). atFront (refusal .number) l out)
       (ap (λ (n : ℕ). resultBytes n (finalMarks atOnce s m method) (handed atOnce s m method)) (alike .rows)
       ∙ ap₂ (resultBytes (t .rows)) (final-marks-alike s t alike m method atOnce at-once-alike) (handed-alike s t alike m method atOnce at-once-alike))
+
+-- So the same rows are answered the same, and leave the same bytes, whatever their layouts.
+module _ (one other : Lent) (same : SameRows one other) (m method : ℕ) where
+  pub written-same : (room : ℕ) → writeResultIn one m method room ≡ writeResultIn other m method room
+  written-same room =
+      written-alike (one .sheet) (other .sheet) (same .alike) _
+      ∙ ap (λ (r : Refusal). writeResultOf r (other .sheet)) (refine-refusal-same one other same m method room resultLength)
+
+  pub bytes-same : (out : List ℕ) → resultAfterIn one m method out ≡ resultAfterIn other m method out
+  bytes-same out =
+      bytes-alike (one .sheet) (other .sheet) (same .alike) _ m method out
+      ∙ ap (λ (r : Refusal). resultSpaceOf r (other .sheet) m method out) (refine-refusal-same one other same m method _ resultLength)
+
+-- And rows that 2 or 3 refuses are answered so, and leave the bytes as they were.
+module _ (lent : Lent) (m method shape : ℕ) (is-shape : shape ≡ shapeRefusal lent) (held : shape ≡ 0 → ⊥) where
+  pub written-by-shape : (room : ℕ) → _≡_ {A = Written} (record { refusal = shape; place = 0; length = 0 }) (writeResultIn lent m method room)
+  unfolding writeResultOf
+  written-by-shape room =
+      write-refused (refused shape 0) _ held
+      ∙ ap (λ (r : Refusal). writeAnswer r (resultLength ((lent .sheet) .rows))) (refine-by-shape lent m method shape is-shape held room _)
+
+  pub bytes-by-shape : (out : List ℕ) → out ≡ resultAfterIn lent m method out
+  unfolding resultSpaceOf
+  bytes-by-shape out =
+      front-left shape (resultOf (lent .sheet) m method) out held
+      ∙ ap (λ (r : Refusal). atFront (r .number) (resultOf (lent .sheet) m method) out) (refine-by-shape lent m method shape is-shape held _ _)

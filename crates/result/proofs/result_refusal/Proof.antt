@@ -1,32 +1,34 @@
--- `result_refusal` hands its own checks, in number order, to the shared ones. A list of words is short enough that its result's length fits.
+-- `result_refusal` refuses by the shape first, so that the result's length fits; then it hands its own checks, in number order, to the shared ones.
 use borrow.Author.Needs.{needs}
-use mathlib.Core.Path.{_≡_, ap}
-use Prim.Native.Nat.{ℕ, _+_, _*_, _/_}
-use lib.ListN.{length}
-use Rattle.model.specs.Sheet.{triples}
-use Rattle.rows.specs.Words.{sheetOf}
-use Rattle.refinement.proofs.Refinement.{refusal-made}
-use Rattle.report.specs.Lines.{resultHead, resultLine, resultLength}
+use mathlib.Core.Path.{_≡_, refl, sym, _∙_}
+use Prim.Native.Nat.{_≤_}
 use native.Mathlib.Omega.{arith}
+use denote.Ref.{now}
+use lib.ListN.{length}
+use Rattle.model.specs.Sheet.{columns}
+use Rattle.rows.proofs.Checks.{shape-passed}
+use Rattle.refinement.proofs.Refinement.{refusal-made}
+use Rattle.refinement.proofs.Layouts.{refine-by-shape}
+use Rattle.report.specs.Lines.{resultHead, resultLine, resultLength}
 use Rattle.result.proofs.result_refusal.Statement.{statement}
 use Rattle.result.proofs.result_refusal.Tie as tie
 
-row-count-requires : tie.Need-row-count-requires
-row-count-requires c κs = search needs
+columns-shape-requires : tie.Need-columns-shape-requires
+columns-shape-requires c κs = search needs
+
+returns : tie.Need-returns
+returns c = refine-by-shape _ _ _ _ (c .before .columns-shape .ensures) (c .if1 .taken) _ _
+
+-- Past the first check there are at most 64 rows.
+few : (c : tie.Else1) → length (now (c .before .before .before .before .before .args .costs)) ≤ 64
+unfolding columns
+few c = shape-passed _ (sym (c .before .columns-shape .ensures) ∙ c .if1 .left) .1
 
 mul-need : tie.Need-mul-need
-unfolding sheetOf triples
-mul-need c =
-    let s = c .before .before in
-    let rows : c .row-count .result ≡ length (s .args .words .now) / 3 = c .row-count .ensures in
-    omega (arith, s .good .0 .1)
+mul-need c = omega (arith, few c)
 
 add-need : tie.Need-add-need
-unfolding sheetOf triples
-add-need c =
-    let s = c .before .before in
-    let rows : c .row-count .result ≡ length (s .args .words .now) / 3 = c .row-count .ensures in
-    omega (arith, s .good .0 .1)
+add-need c = omega (arith, few c)
 
 method-refusal-requires : tie.Need-method-refusal-requires
 method-refusal-requires c κs = search needs
@@ -43,25 +45,25 @@ processors-refusal-requires c κs = search needs
 first-of-requires-2 : tie.Need-first-of-requires-2
 first-of-requires-2 c κs = search needs
 
-words-refusal-requires : tie.Need-words-refusal-requires
-words-refusal-requires c κs = search needs
+columns-refusal-requires : tie.Need-columns-refusal-requires
+columns-refusal-requires c κs = search needs
 
-returns : tie.Need-returns
-unfolding resultLength resultHead resultLine
-returns c =
+returns-2 : tie.Need-returns-2
+unfolding resultLength resultHead resultLine columns
+returns-2 c =
     let whole = c .before in
     let four = whole .before in
     let rest = four .before in
     let seven = rest .before in
-    let five = seven .before in
-    refusal-made _ _ _ _ _ _ (five .method-refusal .ensures) (ap (λ (n : ℕ). 7 + 11 * n) (five .before .row-count .ensures)) (seven .room-refusal .ensures)
-    (rest .first-of .ensures) (four .processors-refusal .ensures) (whole .first-of2 .ensures) (c .words-refusal .ensures)
+    refusal-made _ _ _ _ _ _ (seven .before .method-refusal .ensures) refl (seven .room-refusal .ensures)
+    (rest .first-of .ensures) (four .processors-refusal .ensures) (whole .first-of2 .ensures) (c .columns-refusal .ensures)
 
 pub result-refusal-spec : {M : Type 1} → statement M
 result-refusal-spec =
     tie.close
     (tie.spec
-    row-count-requires
+    columns-shape-requires
+    returns
     mul-need
     add-need
     method-refusal-requires
@@ -69,5 +71,5 @@ result-refusal-spec =
     first-of-requires
     processors-refusal-requires
     first-of-requires-2
-    words-refusal-requires
-    returns)
+    columns-refusal-requires
+    returns-2)

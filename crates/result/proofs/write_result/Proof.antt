@@ -1,123 +1,91 @@
--- `write_result` makes its checks first; a result that passes them has room, and is written into exactly its part of the output.
+-- `write_result` is a thin layer: refused by 2 or 3, or answered as the same rows are in columns.
+use mathlib.Core.Path.{sym, _∙_}
 use borrow.Author.Needs.{needs}
-use mathlib.Core.Path.{_≡_, sym, _∙_, ap, ap₂}
-use mathlib.Core.List.{List, _++_}
-use Prim.Native.Nat.{ℕ, _+_, _*_}
-use lib.ListN.{length, take, drop}
+use denote.Ref.{now}
+use lib.ListN.{length}
 use lib.Seq.{length-take-le}
-use Rattle.rows.specs.declared.Refusal.{Refusal}
-use Rattle.model.proofs.Sheet.{few-rows}
-use Rattle.rows.specs.Words.{sheetOf}
-use Rattle.rows.specs.Checks.{notWhole}
-use Rattle.refinement.proofs.Refinement.{refining}
-use Rattle.grammar.specs.declared.Written.{Written}
-use Rattle.grammar.specs.Sheets.{writeAnswer}
-use Rattle.grammar.proofs.Refusals.{write-refused, write-accepted}
-use Rattle.report.specs.Lines.{resultHead, resultLine, resultLength}
-use Rattle.report.specs.Result.{resultOf, resultRefusal, writeResultOf, resultSpaceOf, Reportable}
-use Rattle.report.proofs.Entries.{refines, result-of-length}
-use native.Mathlib.Omega.{arith}
-use Rattle.laws.specs.Fill.{atFront}
-use Rattle.laws.proofs.Fill.{front-left, front-put}
+use Rattle.rows.specs.Inner.{Fronts}
+use Rattle.rows.proofs.Layouts.{fronts-there, taken-apart}
+use Rattle.report.proofs.Entries.{written-same, bytes-same, written-by-shape, bytes-by-shape}
 use Rattle.result.proofs.write_result.Statement.{statement}
 use Rattle.result.proofs.write_result.Tie as tie
 
-result-refusal-requires : tie.Need-result-refusal-requires
-result-refusal-requires c κs = search needs
+slice-aggregate-take-apart : tie.Need-slice-aggregate-take-apart
+slice-aggregate-take-apart c = search needs
 
--- The function's entry.
-abbrev start : tie.After-result-refusal → tie.Start
-start c = c .before .before .before
+slice-aggregate-take-apart-2 : tie.Need-slice-aggregate-take-apart-2
+slice-aggregate-take-apart-2 c = search needs
+
+slice-aggregate-take-apart-3 : tie.Need-slice-aggregate-take-apart-3
+slice-aggregate-take-apart-3 c = search needs
+
+take-apart-requires : tie.Need-take-apart-requires
+take-apart-requires c κs = search needs
 
 returns : tie.Need-returns
-unfolding writeResultOf resultSpaceOf
 returns c =
-    let q = c .before in
-    let a = start q .args in (
-      write-refused (q .result-refusal .result) (resultLength ((sheetOf (a .words .now)) .rows)) (c .if1 .taken)
-          ∙ ap (λ (f : Refusal). writeAnswer f (resultLength ((sheetOf (a .words .now)) .rows))) (q .result-refusal .ensures),
-      front-left (q .result-refusal .result .number) (resultOf (sheetOf (a .words .now)) (a .processors) (a .method)) (a .out .now) (c .if1 .taken)
-          ∙ ap (λ (f : Refusal). atFront (f .number) (resultOf (sheetOf (a .words .now)) (a .processors) (a .method)) (a .out .now)) (q .result-refusal .ensures),
-    )
+    let shape = c .before .before .before .before .take-apart .ensures .0 in
+    (written-by-shape _ _ _ _ shape (c .if1 .taken) _, bytes-by-shape _ _ _ _ shape (c .if1 .taken) _)
 
 row-count-requires : tie.Need-row-count-requires
 row-count-requires c κs = search needs
 
--- Past the test the refusal's number is 0, which says all that the work needs.
-passed : (c : tie.Else1) → let a = start (c .before) .args in
-    (resultRefusal (a .words .now) (a .processors) (a .method) (length (a .out .now))) .number ≡ 0
-passed c = sym (ap (λ (r : Refusal). r .number) (c .before .result-refusal .ensures)) ∙ c .if1 .left
+-- Past the check each column has a word for each row.
+there : (c : tie.After-row-count) → let columns = c .before .before .before .before .before .take-apart .last in
+    Fronts (c .row-count .result) (columns .1 .0) (columns .1 .1 .0) (columns .1 .1 .1 .0)
+there c =
+    fronts-there _ _ _ _ _ (c .row-count .ensures) (c .before .before .before .before .before .take-apart .ensures .1 (c .before .if1 .left))
 
-facts : (c : tie.Else1) → let a = start (c .before) .args in
-    Reportable (notWhole (a .words .now)) (sheetOf (a .words .now)) (a .processors) (a .method) (length (a .out .now))
-facts c = refining _ _ _ _ _ _ (passed c)
+array-share-prefix-costs : tie.Need-array-share-prefix-costs
+array-share-prefix-costs c = there c .costs-there
 
-cast-rows : tie.Need-cast-rows
-cast-rows c = omega (arith, few-rows _ (facts (c .before) .posed .sizes))
+slice-aggregate-write-result-columns : tie.Need-slice-aggregate-write-result-columns
+slice-aggregate-write-result-columns c = sym (length-take-le _ _ (there (c .before) .costs-there))
 
-cast-length : tie.Need-cast-length
-cast-length c = search needs
+array-share-prefix-deadlines : tie.Need-array-share-prefix-deadlines
+array-share-prefix-deadlines c = there (c .before) .deadlines-there
 
-mul-length : tie.Need-mul-length
-mul-length c = omega (arith, few-rows _ (facts (c .before) .posed .sizes))
+slice-aggregate-write-result-columns-2 : tie.Need-slice-aggregate-write-result-columns-2
+slice-aggregate-write-result-columns-2 c = sym (length-take-le _ _ (there (c .before .before) .deadlines-there))
 
-add-length : tie.Need-add-length
-add-length c = omega (arith, few-rows _ (facts (c .before) .posed .sizes))
+array-share-prefix-periods : tie.Need-array-share-prefix-periods
+array-share-prefix-periods c = there (c .before .before) .periods-there
 
--- The result's length.
-size : (c : tie.After-row-count) → 7 + 11 * c .row-count .result ≡ resultLength ((sheetOf (start (c .before .before) .args .words .now)) .rows)
-unfolding resultLength resultHead resultLine
-size c = ap (λ (n : ℕ). 7 + 11 * n) (c .row-count .ensures)
+slice-aggregate-write-result-columns-3 : tie.Need-slice-aggregate-write-result-columns-3
+slice-aggregate-write-result-columns-3 c = sym (length-take-le _ _ (there (c .before .before .before) .periods-there))
 
-slice-relend-prefix-put-refined : tie.Need-slice-relend-prefix-put-refined
-slice-relend-prefix-put-refined c = rw (size c) (facts (c .before) .enough)
-
--- Its part of the output has exactly that length.
-part : (c : tie.After-row-count) → let n = 7 + 11 * c .row-count .result in length (take n (start (c .before .before) .args .out .now)) ≡ n
-part c = length-take-le (7 + 11 * c .row-count .result) (start (c .before .before) .args .out .now) (slice-relend-prefix-put-refined c)
-
-slice-aggregate-put-refined : tie.Need-slice-aggregate-put-refined
-slice-aggregate-put-refined c = sym (part (c .before))
-
-put-refined-requires : tie.Need-put-refined-requires
-unfolding resultLength resultHead resultLine
-put-refined-requires c κs =
-    (refines _ _ _ _ _ (facts (c .before .before)), c .before .row-count .ensures, part (c .before))
-
-cast-written : tie.Need-cast-written
-cast-written c = let r = c .before .before .before .before in omega (arith, few-rows _ (facts (r .before) .posed .sizes))
+write-result-columns-requires : tie.Need-write-result-columns-requires
+write-result-columns-requires c κs = search needs
 
 same-length : tie.Need-same-length
 same-length c = search needs
 
 returns-2 : tie.Need-returns-2
-unfolding writeResultOf resultSpaceOf
 returns-2 c =
-    let r = c .before .before .before .before in
-    let a = start (r .before .before) .args in
-    let text = resultOf (sheetOf (a .words .now)) (a .processors) (a .method) in
-    let none-holds = passed (r .before) in (
-      ap (λ (n : ℕ). let w : Written = record { refusal = 0; place = 0; length = n } in w) (size r)
-          ∙ write-accepted (resultRefusal (a .words .now) (a .processors) (a .method) (length (a .out .now))) (resultLength ((sheetOf (a .words .now)) .rows)) none-holds,
-      ap₂ (λ (l : List ℕ) (n : ℕ). l ++ drop n (a .out .now)) (c .before .before .put-refined .ensures)
-          (size r ∙ sym (result-of-length (sheetOf (a .words .now)) (a .processors) (a .method)))
-          ∙ front-put _ text (a .out .now) none-holds,
-    )
+    let counted = c .before .before .before .before .before .before .before in
+    let out = now (counted .before .before .before .before .before .before .before .before .before .before .before .args .out) in
+    let apart = counted .before .before .before .before .before .take-apart .ensures in
+    let zero = counted .before .if1 .left in
+    let same = taken-apart _ _ _ _ _ (sym (apart .0) ∙ zero) (counted .row-count .ensures) (apart .1 zero) in
+    let said = c .before .before .write-result-columns .ensures in
+    (said .0 ∙ sym (written-same _ _ same _ _ (length out)), said .1 ∙ sym (bytes-same _ _ same _ _ out))
 
 pub write-result-spec : {M : Type 1} → statement M
 write-result-spec =
     tie.close
     (tie.spec
-    result-refusal-requires
+    slice-aggregate-take-apart
+    slice-aggregate-take-apart-2
+    slice-aggregate-take-apart-3
+    take-apart-requires
     returns
     row-count-requires
-    cast-rows
-    cast-length
-    mul-length
-    add-length
-    slice-relend-prefix-put-refined
-    slice-aggregate-put-refined
-    put-refined-requires
-    cast-written
+    array-share-prefix-costs
+    slice-aggregate-write-result-columns
+    array-share-prefix-deadlines
+    slice-aggregate-write-result-columns-2
+    array-share-prefix-periods
+    slice-aggregate-write-result-columns-3
+    write-result-columns-requires
     same-length
     returns-2)
