@@ -2,27 +2,33 @@
 mod cases;
 
 use analysis::one_row;
+use analysis::one_row_columns;
 use analysis::refine_at_once;
+use analysis::refine_at_once_columns;
 use analysis::refine_rounds;
+use analysis::refine_rounds_columns;
 use cases::outcome_number;
 use cases::outcome_value;
 use demand::one_processor;
+use demand::one_processor_columns;
 use grammar::Read;
 use grammar::Written;
 use refinement::Refined;
 use result::answer_sheet;
 use result::write_result;
+use result::write_result_columns;
 use rows::bound_or;
 use sheet::read_sheet;
 use sheet::write_sheet;
 ghost use mathlib.Core.Path.{_≡_};
 ghost use lib.ListN.{length};
 ghost use Rattle.model.specs.Refine.{rounds, atOnce};
-ghost use Rattle.refinement.specs.Question.{oneRow};
-ghost use Rattle.refinement.specs.Refinement.{refined, refinedWords};
-ghost use Rattle.verdict.specs.OneProcessor.{oneProcessor};
+ghost use Rattle.rows.specs.Layouts.{inColumns};
+ghost use Rattle.refinement.specs.Question.{oneRowIn, oneRow};
+ghost use Rattle.refinement.specs.Refinement.{refinedIn, refinedWordsIn, refined, refinedWords};
+ghost use Rattle.verdict.specs.OneProcessor.{oneProcessorIn, oneProcessor};
 ghost use Rattle.grammar.specs.Sheets.{readSheet, wordsAfter, writeSheet, bytesAfter};
-ghost use Rattle.report.specs.Result.{writeResult, resultAfter, answerSheet, answerAfter};
+ghost use Rattle.report.specs.Result.{writeResultIn, resultAfterIn, writeResult, resultAfter, answerSheet, answerAfter};
 ghost use Rattle.board.specs.Face.{rowInNumbers, outcomeInNumbers};
 
 // The answer to the one-row question in numbers: the bound is 0 where there is none.
@@ -62,6 +68,28 @@ pub extern "C" fn circuitrail_one_row(
     }
 }
 
+// The same of rows in columns.
+#[no_mangle]
+pub extern "C" fn circuitrail_one_row_columns(
+    costs: &[u32],
+    deadlines: &[u32],
+    periods: &[u32],
+    processors: u32,
+    method: u32,
+    bounds: &[u32],
+    row: u32,
+) -> RowNumbers
+    ensures { λ r. ⌜ r ≡ rowInNumbers (oneRowIn (inColumns (now (costs .entry)) (now (deadlines .entry)) (now (periods .entry))) processors method (now (bounds .entry)) row) ⌝ }
+{
+    let answered = one_row_columns(costs, deadlines, periods, processors, method, bounds, row);
+    let answer = answered.answer;
+    RowNumbers {
+        refusal: answered.refusal,
+        place: answered.place,
+        bound: bound_or(answer, 0),
+    }
+}
+
 // The whole sheet refined by the rounds engine, its final bounds written to the front of the lent words.
 #[no_mangle]
 pub extern "C" fn circuitrail_refine_rounds(
@@ -74,6 +102,22 @@ pub extern "C" fn circuitrail_refine_rounds(
     ensures written { λ r. ⌜ now (bounds .exit) ≡ refinedWords rounds (now (words .entry)) processors method (now (bounds .entry)) ⌝ }
 {
     refine_rounds(words, processors, method, bounds)
+}
+
+// The same of rows in columns.
+#[no_mangle]
+pub extern "C" fn circuitrail_refine_rounds_columns(
+    costs: &[u32],
+    deadlines: &[u32],
+    periods: &[u32],
+    processors: u32,
+    method: u32,
+    bounds: &mut [u32],
+) -> Refined
+    ensures answered { λ r. ⌜ r ≡ refinedIn rounds (inColumns (now (costs .entry)) (now (deadlines .entry)) (now (periods .entry))) processors method (length (now (bounds .entry))) ⌝ }
+    ensures written { λ r. ⌜ now (bounds .exit) ≡ refinedWordsIn rounds (inColumns (now (costs .entry)) (now (deadlines .entry)) (now (periods .entry))) processors method (now (bounds .entry)) ⌝ }
+{
+    refine_rounds_columns(costs, deadlines, periods, processors, method, bounds)
 }
 
 // The same by the at-once engine.
@@ -90,12 +134,50 @@ pub extern "C" fn circuitrail_refine_at_once(
     refine_at_once(words, processors, method, bounds)
 }
 
+// The same of rows in columns.
+#[no_mangle]
+pub extern "C" fn circuitrail_refine_at_once_columns(
+    costs: &[u32],
+    deadlines: &[u32],
+    periods: &[u32],
+    processors: u32,
+    method: u32,
+    bounds: &mut [u32],
+) -> Refined
+    ensures answered { λ r. ⌜ r ≡ refinedIn atOnce (inColumns (now (costs .entry)) (now (deadlines .entry)) (now (periods .entry))) processors method (length (now (bounds .entry))) ⌝ }
+    ensures written { λ r. ⌜ now (bounds .exit) ≡ refinedWordsIn atOnce (inColumns (now (costs .entry)) (now (deadlines .entry)) (now (periods .entry))) processors method (now (bounds .entry)) ⌝ }
+{
+    refine_at_once_columns(costs, deadlines, periods, processors, method, bounds)
+}
+
 // Whether the rows fit on one processor, as far as the horizon shows.
 #[no_mangle]
 pub extern "C" fn circuitrail_one_processor(words: &[u32], horizon: u32) -> OutcomeNumbers
     ensures { λ r. ⌜ r ≡ outcomeInNumbers (oneProcessor (now (words .entry)) horizon) ⌝ }
 {
     let tested = one_processor(words, horizon);
+    let outcome = tested.outcome;
+    let number = outcome_number(outcome);
+    let length = outcome_value(outcome);
+    OutcomeNumbers {
+        refusal: tested.refusal,
+        place: tested.place,
+        outcome: number,
+        length: length,
+    }
+}
+
+// The same of rows in columns.
+#[no_mangle]
+pub extern "C" fn circuitrail_one_processor_columns(
+    costs: &[u32],
+    deadlines: &[u32],
+    periods: &[u32],
+    horizon: u32,
+) -> OutcomeNumbers
+    ensures { λ r. ⌜ r ≡ outcomeInNumbers (oneProcessorIn (inColumns (now (costs .entry)) (now (deadlines .entry)) (now (periods .entry))) horizon) ⌝ }
+{
+    let tested = one_processor_columns(costs, deadlines, periods, horizon);
     let outcome = tested.outcome;
     let number = outcome_number(outcome);
     let length = outcome_value(outcome);
@@ -137,6 +219,22 @@ pub extern "C" fn circuitrail_write_result(
     ensures written { λ r. ⌜ now (out .exit) ≡ resultAfter (now (words .entry)) processors method (now (out .entry)) ⌝ }
 {
     write_result(words, processors, method, out)
+}
+
+// The same of rows in columns.
+#[no_mangle]
+pub extern "C" fn circuitrail_write_result_columns(
+    costs: &[u32],
+    deadlines: &[u32],
+    periods: &[u32],
+    processors: u32,
+    method: u32,
+    out: &mut [u8],
+) -> Written
+    ensures answered { λ r. ⌜ r ≡ writeResultIn (inColumns (now (costs .entry)) (now (deadlines .entry)) (now (periods .entry))) processors method (length (now (out .entry))) ⌝ }
+    ensures written { λ r. ⌜ now (out .exit) ≡ resultAfterIn (inColumns (now (costs .entry)) (now (deadlines .entry)) (now (periods .entry))) processors method (now (out .entry)) ⌝ }
+{
+    write_result_columns(costs, deadlines, periods, processors, method, out)
 }
 
 // Writes the whole answer to a sheet's bytes to the front of the lent bytes.
