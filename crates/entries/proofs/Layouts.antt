@@ -1,0 +1,27 @@
+-- For every list of rows triples and columns give the same answers, refusals and words: they are the same rows, and the same rows are
+-- answered the same by every entry.
+use Rattle.model.specs.Sheet.{Sheet}
+use Rattle.model.specs.Refine.{rounds, atOnce}
+use Rattle.rows.specs.Layouts.{Lent, SameRows, asTriples, asColumns}
+use Rattle.rows.proofs.Layouts.{layouts-same}
+use Rattle.refinement.proofs.Demands.{rounds-alike, at-once-alike}
+use Rattle.refinement.proofs.Layouts.{one-row-same, refined-same, refined-words-same}
+use Rattle.verdict.proofs.Promised.{one-processor-same}
+use Rattle.report.proofs.Entries.{written-same, bytes-same}
+use Rattle.entries.specs.Layouts.{SameAnswers}
+
+pub same-answers : (one other : Lent) → SameRows one other → SameAnswers one other
+same-answers one other same =
+    record {
+      one-row = one-row-same one other same;
+      by-rounds = λ m method room. refined-same one other same m method rounds rounds-alike room;
+      rounds-words = λ m method out. refined-words-same one other same m method rounds rounds-alike out;
+      at-once = λ m method room. refined-same one other same m method atOnce at-once-alike room;
+      at-once-words = λ m method out. refined-words-same one other same m method atOnce at-once-alike out;
+      one-processor = one-processor-same one other same;
+      result = written-same one other same;
+      result-bytes = bytes-same one other same;
+    }
+
+pub layouts-agree : (s : Sheet) → SameAnswers (asTriples s) (asColumns s)
+layouts-agree s = same-answers (asTriples s) (asColumns s) (layouts-same s)
