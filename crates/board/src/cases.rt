@@ -1,7 +1,13 @@
-// Each case of an enum as numbers.
+// Answers that hold an enum, in numbers alone.
+use crate::OutcomeNumbers;
+use crate::RowNumbers;
+use refinement::OneRow;
+use rows::bound_or;
+use verdict::Answer;
 use verdict::Outcome;
 ghost use mathlib.Core.Path.{_≡_};
 ghost use Rattle.verdict.specs.OneProcessor.{outcomeNumber, outcomeValue};
+ghost use Rattle.board.specs.Face.{rowInNumbers, outcomeInNumbers};
 
 // Undecided is 0, a miss 1, fits 2.
 pub(crate) fn outcome_number(outcome: Outcome) -> u32
@@ -22,5 +28,32 @@ pub(crate) fn outcome_value(outcome: Outcome) -> u32
         Outcome::Undecided => 0,
         Outcome::Miss(length) => length,
         Outcome::Fits(length) => length,
+    }
+}
+
+// The answer to the one-row question in numbers.
+pub(crate) fn row_numbers(answered: OneRow) -> RowNumbers
+    ensures { λ r. ⌜ r ≡ rowInNumbers answered ⌝ }
+{
+    let answer = answered.answer;
+    RowNumbers {
+        refusal: answered.refusal,
+        place: answered.place,
+        bound: bound_or(answer, 0),
+    }
+}
+
+// The answer of the exact test in numbers.
+pub(crate) fn outcome_numbers(tested: Answer) -> OutcomeNumbers
+    ensures { λ r. ⌜ r ≡ outcomeInNumbers tested ⌝ }
+{
+    let outcome = tested.outcome;
+    let number = outcome_number(outcome);
+    let length = outcome_value(outcome);
+    OutcomeNumbers {
+        refusal: tested.refusal,
+        place: tested.place,
+        outcome: number,
+        length: length,
     }
 }

@@ -7,8 +7,8 @@ use analysis::refine_at_once;
 use analysis::refine_at_once_columns;
 use analysis::refine_rounds;
 use analysis::refine_rounds_columns;
-use cases::outcome_number;
-use cases::outcome_value;
+use cases::outcome_numbers;
+use cases::row_numbers;
 use demand::one_processor;
 use demand::one_processor_columns;
 use grammar::Read;
@@ -17,7 +17,6 @@ use refinement::Refined;
 use result::answer_sheet;
 use result::write_result;
 use result::write_result_columns;
-use rows::bound_or;
 use sheet::read_sheet;
 use sheet::write_sheet;
 ghost use mathlib.Core.Path.{_≡_};
@@ -59,13 +58,7 @@ pub extern "C" fn circuitrail_one_row(
 ) -> RowNumbers
     ensures { λ r. ⌜ r ≡ rowInNumbers (oneRow (now (words .entry)) processors method (now (bounds .entry)) row) ⌝ }
 {
-    let answered = one_row(words, processors, method, bounds, row);
-    let answer = answered.answer;
-    RowNumbers {
-        refusal: answered.refusal,
-        place: answered.place,
-        bound: bound_or(answer, 0),
-    }
+    row_numbers(one_row(words, processors, method, bounds, row))
 }
 
 // The same of rows in columns.
@@ -81,13 +74,7 @@ pub extern "C" fn circuitrail_one_row_columns(
 ) -> RowNumbers
     ensures { λ r. ⌜ r ≡ rowInNumbers (oneRowIn (inColumns (now (costs .entry)) (now (deadlines .entry)) (now (periods .entry))) processors method (now (bounds .entry)) row) ⌝ }
 {
-    let answered = one_row_columns(costs, deadlines, periods, processors, method, bounds, row);
-    let answer = answered.answer;
-    RowNumbers {
-        refusal: answered.refusal,
-        place: answered.place,
-        bound: bound_or(answer, 0),
-    }
+    row_numbers(one_row_columns(costs, deadlines, periods, processors, method, bounds, row))
 }
 
 // The whole sheet refined by the rounds engine, its final bounds written to the front of the lent words.
@@ -155,16 +142,7 @@ pub extern "C" fn circuitrail_refine_at_once_columns(
 pub extern "C" fn circuitrail_one_processor(words: &[u32], horizon: u32) -> OutcomeNumbers
     ensures { λ r. ⌜ r ≡ outcomeInNumbers (oneProcessor (now (words .entry)) horizon) ⌝ }
 {
-    let tested = one_processor(words, horizon);
-    let outcome = tested.outcome;
-    let number = outcome_number(outcome);
-    let length = outcome_value(outcome);
-    OutcomeNumbers {
-        refusal: tested.refusal,
-        place: tested.place,
-        outcome: number,
-        length: length,
-    }
+    outcome_numbers(one_processor(words, horizon))
 }
 
 // The same of rows in columns.
@@ -177,16 +155,7 @@ pub extern "C" fn circuitrail_one_processor_columns(
 ) -> OutcomeNumbers
     ensures { λ r. ⌜ r ≡ outcomeInNumbers (oneProcessorIn (inColumns (now (costs .entry)) (now (deadlines .entry)) (now (periods .entry))) horizon) ⌝ }
 {
-    let tested = one_processor_columns(costs, deadlines, periods, horizon);
-    let outcome = tested.outcome;
-    let number = outcome_number(outcome);
-    let length = outcome_value(outcome);
-    OutcomeNumbers {
-        refusal: tested.refusal,
-        place: tested.place,
-        outcome: number,
-        length: length,
-    }
+    outcome_numbers(one_processor_columns(costs, deadlines, periods, horizon))
 }
 
 // Reads a task sheet, its rows' words written to the front of the lent words.

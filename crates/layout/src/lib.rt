@@ -8,7 +8,7 @@ use rows::shape_refusal;
 ghost use mathlib.Core.Path.{_≡_};
 ghost use Prim.Native.Nat.{_≤_, _<_};
 ghost use lib.ListN.{length};
-ghost use Rattle.model.specs.Sheet.{columns, rowAllowedAt};
+ghost use Rattle.model.specs.Sheet.{columns};
 ghost use Rattle.rows.specs.Words.{sheetOf, firstOutside, foundOf};
 ghost use Rattle.rows.specs.Checks.{laidRefusal};
 ghost use Rattle.rows.specs.Layouts.{inTriples, uneven, inColumns, shapeRefusal};

@@ -1,6 +1,6 @@
 -- The same rows are answered the same, whatever their layouts: the refusal is the same, and so is what alike sheets are answered. Rows that 2
 -- or 3 refuses are answered so.
-use mathlib.Core.Path.{_≡_, refl, sym, _∙_, ap}
+use mathlib.Core.Path.{_≡_, sym, _∙_, ap}
 use mathlib.Core.Bool.{Bool}
 use mathlib.Core.List.{List}
 use Prim.Native.Nat.{ℕ}
@@ -9,7 +9,6 @@ use Rattle.rows.specs.declared.Found.the-variants.{Nowhere}
 use Rattle.rows.specs.Checks.{refused}
 use Rattle.rows.specs.Layouts.{Lent, shapeRefusal, SameRows}
 use Rattle.rows.proofs.Checks.{shape-refused}
-use Rattle.refinement.specs.declared.OneRow.{OneRow}
 use Rattle.refinement.specs.declared.Refined.{Refined}
 use Rattle.refinement.specs.Question.{oneRowRefusalOf, oneRowOf, oneRowIn}
 use Rattle.refinement.specs.Refinement.{Engine, EndsAlike, refineRefusalOf, refinedOf, refinedSpaceOf, refinedIn, refinedWordsIn}

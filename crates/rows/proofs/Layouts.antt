@@ -2,7 +2,7 @@
 use mathlib.Core.Path.{_≡_, refl, sym, _∙_, ap}
 use mathlib.Core.Bool.{false, not, _&&_}
 use mathlib.Core.List.{List, [], _∷_}
-use Prim.Native.Nat.{ℕ, _+_, _*_, _/_, _%_, _≤_, _<_}
+use Prim.Native.Nat.{ℕ, _+_, _*_, _%_, _≤_, _<_}
 use native.Mathlib.Omega.{arith}
 use borrow.Author.Tests.{eq-eqb, eqb-true, not-false}
 use lib.Dec.{eqb}
@@ -11,7 +11,6 @@ use Rattle.laws.specs.Fill.{listed, joined}
 use Rattle.laws.proofs.Choice.{and-left, and-right, and-both}
 use Rattle.laws.proofs.Fill.{listed-length, listed-at, listed-back, joined-length, joined-at}
 use Rattle.model.specs.Sheet.{Sheet, triples, columns}
-use Rattle.model.specs.Alike.{Alike}
 use Rattle.model.specs.Refine.{deadlines}
 use Rattle.model.proofs.Alike.{alike-back, alike-then}
 use Rattle.rows.specs.Words.{sheetOf}

@@ -1,5 +1,5 @@
 -- `one_processor` is a thin layer: refused by 2 or 3, or answered as the same rows are in columns.
-use mathlib.Core.Path.{_≡_, sym, _∙_, ap}
+use mathlib.Core.Path.{sym, _∙_, ap}
 use Prim.Native.Nat.{ℕ}
 use borrow.Author.Needs.{needs}
 use lib.Seq.{length-take-le}

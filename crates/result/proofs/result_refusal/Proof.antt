@@ -1,6 +1,6 @@
 -- `result_refusal` refuses by the shape first, so that the result's length fits; then it hands its own checks, in number order, to the shared ones.
 use borrow.Author.Needs.{needs}
-use mathlib.Core.Path.{_≡_, refl, sym, _∙_}
+use mathlib.Core.Path.{refl, sym, _∙_}
 use Prim.Native.Nat.{_≤_}
 use native.Mathlib.Omega.{arith}
 use denote.Ref.{now}

@@ -1,6 +1,6 @@
 -- `bound_allowed` makes the definition's two tests, in their order.
 use borrow.Author.Needs.{needs}
-use mathlib.Core.Path.{sym, _∙_, ap}
+use mathlib.Core.Path.{sym}
 use Prim.Native.Nat.{_≤_, _<_}
 use lib.Dec.{leb}
 use lib.ListN.{getD}

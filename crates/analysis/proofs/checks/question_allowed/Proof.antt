@@ -1,12 +1,11 @@
 -- `question_allowed` makes the definition's tests in their order.
 use borrow.Author.Needs.{needs}
-use mathlib.Core.Path.{_≡_, sym, _∙_, ap}
+use mathlib.Core.Path.{_≡_, sym, _∙_}
 use Prim.Native.Nat.{_≤_, _<_}
 use lib.ListN.{length}
 use denote.Ref.{now}
 use borrow.Author.Tests.{lt-ltb, le-ltb, eq-eqb, ne-eqb}
 use Rattle.model.specs.Sheet.{columns}
-use Rattle.laws.specs.Bits.{every}
 use Rattle.laws.proofs.Choice.{and-fails, and-holds}
 use Rattle.refinement.specs.Question.{questionAllowed}
 use native.Mathlib.Omega.{arith}
