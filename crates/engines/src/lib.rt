@@ -166,15 +166,15 @@ pub fn run_rounds(
     bounds: &mut [u32],
     processors: u32,
     method: u32,
-    count: u32,
 ) -> u64
-    requires { ⌜ (let s = columns (now costs) (now deadlines) (now periods) in Allowed s × (count ≡ s .rows) × (1 ≤ processors) × (length (now bounds) ≡ count) × (processors ≤ 64) × Even (now costs) (now deadlines) (now periods)) ⌝ }
+    requires { ⌜ (let s = columns (now costs) (now deadlines) (now periods) in Allowed s × (1 ≤ processors) × (length (now bounds) ≡ s .rows) × (processors ≤ 64) × Even (now costs) (now deadlines) (now periods)) ⌝ }
     ensures seen { λ r. ⌜ r ≡ finalMarks rounds (columns (now (costs .entry)) (now (deadlines .entry)) (now (periods .entry))) processors method ⌝ }
     ensures settled { λ r. ⌜ now (bounds .exit) ≡ finalBounds rounds (columns (now (costs .entry)) (now (deadlines .entry)) (now (periods .entry))) processors method ⌝ }
 {
+    let end = costs.len();
+    let count = end as u32;
     copy_back(deadlines, bounds, count);
     let mut next = [0u32; 64];
-    let end = count as usize;
     settle_rounds(
         costs,
         deadlines,
@@ -195,18 +195,18 @@ pub fn run_at_once(
     bounds: &mut [u32],
     processors: u32,
     method: u32,
-    count: u32,
 ) -> u64
-    requires { ⌜ (let s = columns (now costs) (now deadlines) (now periods) in Allowed s × (count ≡ s .rows) × (1 ≤ processors) × (length (now bounds) ≡ count) × (processors ≤ 64) × Even (now costs) (now deadlines) (now periods)) ⌝ }
+    requires { ⌜ (let s = columns (now costs) (now deadlines) (now periods) in Allowed s × (1 ≤ processors) × (length (now bounds) ≡ s .rows) × (processors ≤ 64) × Even (now costs) (now deadlines) (now periods)) ⌝ }
     ensures seen { λ r. ⌜ r ≡ finalMarks atOnce (columns (now (costs .entry)) (now (deadlines .entry)) (now (periods .entry))) processors method ⌝ }
     ensures settled { λ r. ⌜ now (bounds .exit) ≡ finalBounds atOnce (columns (now (costs .entry)) (now (deadlines .entry)) (now (periods .entry))) processors method ⌝ }
 {
-    copy_back(deadlines, bounds, count);
+    let end = costs.len();
+    let rows = end as u32;
+    copy_back(deadlines, bounds, rows);
     let mut before = [0u32; 64];
     let mut drops = [0u32; 64];
     let mut others = [0u32; 320];
     let mut room = [0u32; 64];
-    let end = count as usize;
     settle_at_once(
         costs,
         deadlines,
@@ -218,6 +218,6 @@ pub fn run_at_once(
         &mut room[..end],
         processors,
         method,
-        count,
+        rows,
     )
 }

@@ -8,12 +8,12 @@ use Rattle.laws.specs.Sum.{total, unless}
 use Rattle.laws.specs.Search.{least}
 use Rattle.laws.specs.Fill.{listed, same}
 use Rattle.laws.specs.Bits.{bits}
-use Rattle.model.specs.Sheet.{triples}
+use Rattle.model.specs.Sheet.{triples, columns}
 use Rattle.model.specs.Interference.{share, carried, work, shareOf, workOf, others, bclTerm, bclValue, rtaTerm, rtaRight}
 use Rattle.model.specs.Answer.{RTA, bclAnswer, rtaAnswer, answer}
 use Rattle.model.specs.Refine.{deadlines, turn, round, sweep, until, passes, rounds, atOnce, marked, marks}
 use Rattle.model.specs.Demand.{rowDemand, demandOf, demand, ceiling, busyOf, busy, busyLength, firstMiss, judged, verdict}
-use Rattle.model.specs.Numbers.{WorkedByHand, Runs, needsDeadlines, Telling}
+use Rattle.model.specs.Numbers.{WorkedByHand, Runs, needsDeadlines, Telling, InColumns}
 
 pub worked-by-hand : WorkedByHand
 unfolding total unless least triples share carried work shareOf workOf others bclTerm bclValue rtaTerm rtaRight bclAnswer rtaAnswer answer rowDemand demandOf demand ceiling busyOf busy busyLength firstMiss judged verdict
@@ -77,3 +77,7 @@ telling =
       bcl-floor = refl;
       largest-set = (refl, refl);
     }
+
+pub in-columns : InColumns
+unfolding total least columns rowDemand demandOf demand ceiling busyOf busy busyLength firstMiss judged verdict
+in-columns = record { fits-at-3 = refl; misses-at-3 = refl; by-costs = refl }

@@ -2,7 +2,7 @@
 use mathlib.Core.Path.{_≡_}
 use mathlib.Core.List.{[], _∷_}
 use mathlib.Core.Option.{none, some}
-use Rattle.model.specs.Sheet.{Sheet, triples}
+use Rattle.model.specs.Sheet.{Sheet, triples, columns}
 use Rattle.model.specs.Interference.{share, work}
 use Rattle.model.specs.Answer.{BCL, RTA, answer}
 use Rattle.model.specs.Refine.{Ask, round, sweep, rounds, atOnce, marks, Consistent}
@@ -113,3 +113,9 @@ pub record Telling : Type 0 where
   pub smaller-set : Consistent needsDeadlines (answer RTA needsDeadlines 1) (1 ∷ 2 ∷ [])
   pub bcl-floor : answer BCL needsFloor 2 0 (3 ∷ 3 ∷ []) ≡ some 1
   pub largest-set : (rounds needsDeadlines (answer RTA needsDeadlines 1) ≡ 2 ∷ 3 ∷ []) × (atOnce needsDeadlines (answer RTA needsDeadlines 1) ≡ 2 ∷ 3 ∷ [])
+
+-- (1,2,4),(2,3,4) and (2,2,4),(2,3,4) in columns, and costs that are fewer than the deadlines, which are fewer than the periods.
+pub record InColumns : Type 0 where
+  pub fits-at-3 : verdict (columns (1 ∷ 2 ∷ []) (2 ∷ 3 ∷ []) (4 ∷ 4 ∷ [])) 3 ≡ fits 3
+  pub misses-at-3 : verdict (columns (2 ∷ 2 ∷ []) (2 ∷ 3 ∷ []) (4 ∷ 4 ∷ [])) 3 ≡ miss 3
+  pub by-costs : (columns (1 ∷ []) (2 ∷ 3 ∷ []) (4 ∷ 4 ∷ 4 ∷ [])) .rows ≡ 1

@@ -72,16 +72,16 @@ pub fn answer_quickly(
     periods: &[u32],
     bounds: &[u32],
     row: u32,
-    count: u32,
     processors: u32,
     method: u32,
 ) -> Found
-    requires { ⌜ (let s = columns (now costs) (now deadlines) (now periods) in Ready s (now bounds) × (row < s .rows) × (count ≡ s .rows) × (1 ≤ processors) × (processors ≤ 64) × Even (now costs) (now deadlines) (now periods)) ⌝ }
+    requires { ⌜ (let s = columns (now costs) (now deadlines) (now periods) in Ready s (now bounds) × (row < s .rows) × (1 ≤ processors) × (processors ≤ 64) × Even (now costs) (now deadlines) (now periods)) ⌝ }
     ensures { λ r. ⌜ r ≡ foundOf (answer (methodOf method) (columns (now (costs .entry)) (now (deadlines .entry)) (now (periods .entry))) processors row (now (bounds .entry))) ⌝ }
 {
     let mut others = [0u32; 320];
     let mut room = [0u32; 64];
-    let end = count as usize;
+    let end = costs.len();
+    let count = end as u32;
     found_of(bound_quickly(
         costs,
         deadlines,

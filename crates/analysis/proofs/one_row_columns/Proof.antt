@@ -2,7 +2,6 @@
 use borrow.Author.Needs.{needs}
 use mathlib.Core.Path.{_≡_, sym, _∙_, ap}
 use denote.Ref.{now}
-use Rattle.model.proofs.Sheet.{few-rows}
 use Rattle.rows.specs.declared.Found.{Found}
 use Rattle.rows.specs.declared.Refusal.{Refusal}
 use Rattle.rows.specs.Layouts.{inColumns}
@@ -10,7 +9,6 @@ use Rattle.rows.proofs.Layouts.{columns-even}
 use Rattle.refinement.specs.declared.OneRow.{OneRow}
 use Rattle.refinement.specs.Question.{oneRowRefusalOf, Askable}
 use Rattle.refinement.proofs.Question.{asked, one-row-answered, one-row-refused}
-use native.Mathlib.Omega.{arith}
 use Rattle.analysis.proofs.one_row_columns.Statement.{statement}
 use Rattle.analysis.proofs.one_row_columns.Tie as tie
 
@@ -31,14 +29,10 @@ facts : (c : tie.Else1) → let p = c .before .before .before .before .before .b
     Askable (lent .broken) (lent .sheet) (p .args .processors) (p .args .method) (now (p .args .bounds)) (p .args .row)
 facts c = asked _ _ _ _ _ _ (passed c)
 
-cast-count : tie.Need-cast-count
-cast-count c = let known = facts c .posed in omega (arith, few-rows _ (known .sizes), columns-even _ _ _ (known .laid) .costs-each)
-
 answer-quickly-requires : tie.Need-answer-quickly-requires
 answer-quickly-requires c κs =
     let known = facts c in
-    let even = columns-even _ _ _ (known .posed .laid) in
-    (known .ready, known .there, even .costs-each, known .posed .some-processor, known .posed .few, even)
+    (known .ready, known .there, known .posed .some-processor, known .posed .few, columns-even _ _ _ (known .posed .laid))
 
 returns-2 : tie.Need-returns-2
 returns-2 c =
@@ -51,6 +45,5 @@ one-row-columns-spec =
     (tie.spec
     question-refusal-requires
     returns
-    cast-count
     answer-quickly-requires
     returns-2)

@@ -4,6 +4,7 @@ use mathlib.Core.Path.{_≡_, refl, sym, _∙_}
 use Prim.Native.Nat.{ℕ, _≤_}
 use lib.ListN.{length, take, replicate}
 use lib.Seq.{length-take-le}
+use denote.Ref.{now}
 use native.Mathlib.Omega.{arith}
 use Rattle.model.proofs.Sheet.{few-rows}
 use Rattle.rows.proofs.Layouts.{deadlines-column}
@@ -11,21 +12,24 @@ use Rattle.refinement.proofs.Refinement.{running-first}
 use Rattle.engines.proofs.run_at_once.Statement.{statement}
 use Rattle.engines.proofs.run_at_once.Tie as tie
 
+-- There are at most 64 costs.
+fits : (s : tie.Start) → length (now (s .args .costs)) ≤ 64
+fits s = omega (arith, s .pre .4 .costs-each, few-rows _ (s .pre .0))
+
+cast-rows : tie.Need-cast-rows
+cast-rows c = omega (arith, fits (c .before .before .before .before))
+
 copy-back-requires : tie.Need-copy-back-requires
 copy-back-requires c κs =
     let p = c .before .before .before .before .before in
-    (p .pre .5 .deadlines-each ∙ sym (p .pre .1), p .pre .3)
-
--- The rows counted fit the space.
-fits : (s : tie.Start) → s .args .count ≤ 64
-fits s = omega (arith, few-rows _ (s .pre .0))
+    (p .pre .4 .deadlines-each ∙ sym (p .pre .4 .costs-each), p .pre .2 ∙ sym (p .pre .4 .costs-each))
 
 array-borrow-prefix-before : tie.Need-array-borrow-prefix-before
 array-borrow-prefix-before c = fits (c .before .before .before .before .before .before .before .before .before)
 
 -- One word of the space for each row.
-space : (s : tie.Start) → length (take (s .args .count) (replicate {A = ℕ} 64 0)) ≡ s .args .count
-space s = length-take-le (s .args .count) (replicate 64 0) (fits s)
+space : (s : tie.Start) → let n = length (now (s .args .costs)) in length (take n (replicate {A = ℕ} 64 0)) ≡ n
+space s = length-take-le _ (replicate 64 0) (fits s)
 
 slice-aggregate-settle-at-once : tie.Need-slice-aggregate-settle-at-once
 slice-aggregate-settle-at-once c = sym (space (c .before .before .before .before .before .before .before .before .before .before))
@@ -48,12 +52,12 @@ slice-aggregate-settle-at-once-4 c = sym (space (c .before .before .before .befo
 settle-at-once-requires : tie.Need-settle-at-once-requires
 settle-at-once-requires c κs =
     let p = c .before .before .before .before .before .before .before .before .before .before .before .before .before in (
-      running-first _ _ _ _ _ (p .pre .0) (p .pre .1) (p .pre .2) (p .pre .4) (c .before .before .before .before .before .before .before .copy-back .ensures .exact ∙ sym (deadlines-column _ _ _ (p .pre .5))),
+      running-first _ _ _ _ _ (p .pre .0) (p .pre .4 .costs-each) (p .pre .1) (p .pre .3) (c .before .before .before .before .before .before .before .copy-back .ensures .exact ∙ sym (deadlines-column _ _ _ (p .pre .4))),
       space p,
       space p,
       refl,
       space p,
-      p .pre .5,
+      p .pre .4,
     )
 
 same-length : tie.Need-same-length
@@ -66,6 +70,7 @@ pub run-at-once-spec : {M : Type 1} → statement M
 run-at-once-spec =
     tie.close
     (tie.spec
+    cast-rows
     copy-back-requires
     array-borrow-prefix-before
     slice-aggregate-settle-at-once

@@ -1,7 +1,7 @@
 -- `answer_quickly` lends space that every allowed sheet fits, and its answer is told by one number.
 use borrow.Author.Needs.{needs}
 use mathlib.Core.Path.{_≡_, refl, sym}
-use Prim.Native.Nat.{ℕ}
+use Prim.Native.Nat.{ℕ, _≤_}
 use lib.ListN.{length, take, replicate}
 use lib.Seq.{length-take-le}
 use denote.Ref.{now}
@@ -11,21 +11,28 @@ use Rattle.refinement.proofs.ByMethod.{found-told}
 use Rattle.turns.proofs.answer_quickly.Statement.{statement}
 use Rattle.turns.proofs.answer_quickly.Tie as tie
 
--- The front of 64 words is as long as there are rows.
-front : (s : tie.Start) → length {A = ℕ} (take (s .args .count) (replicate 64 0)) ≡ s .args .count
-front s = length-take-le (s .args .count) (replicate 64 0) (omega (arith, s .pre .2, few-rows _ (s .pre .0 .rows)))
+-- There are at most 64 costs.
+few : (s : tie.Start) → length (now (s .args .costs)) ≤ 64
+few s = omega (arith, s .pre .4 .costs-each, few-rows _ (s .pre .0 .rows))
+
+-- So the front of 64 words is as long as there are rows.
+front : (s : tie.Start) → let n = length (now (s .args .costs)) in length {A = ℕ} (take n (replicate 64 0)) ≡ n
+front s = length-take-le _ (replicate 64 0) (few s)
+
+cast-count : tie.Need-cast-count
+cast-count c = omega (arith, few (c .before .before .before .before))
 
 slice-aggregate-bound-quickly : tie.Need-slice-aggregate-bound-quickly
 slice-aggregate-bound-quickly c = refl
 
 array-borrow-prefix-room : tie.Need-array-borrow-prefix-room
-array-borrow-prefix-room c = let p = c .before .before .before .before .before in omega (arith, few-rows _ (p .pre .0 .rows))
+array-borrow-prefix-room c = few (c .before .before .before .before .before)
 
 slice-aggregate-bound-quickly-2 : tie.Need-slice-aggregate-bound-quickly-2
 slice-aggregate-bound-quickly-2 c = sym (front (c .before .before .before .before .before .before))
 
 bound-quickly-requires : tie.Need-bound-quickly-requires
-bound-quickly-requires c κs = let p = c .before .before .before .before .before .before in (p .pre .0, p .pre .1, p .pre .2, p .pre .3, p .pre .4, refl, front p, p .pre .5)
+bound-quickly-requires c κs = let p = c .before .before .before .before .before .before in (p .pre .0, p .pre .1, p .pre .4 .costs-each, p .pre .2, p .pre .3, refl, front p, p .pre .4)
 
 found-of-requires : tie.Need-found-of-requires
 found-of-requires c κs = search needs
@@ -37,6 +44,7 @@ pub answer-quickly-spec : {M : Type 1} → statement M
 answer-quickly-spec =
     tie.close
     (tie.spec
+    cast-count
     slice-aggregate-bound-quickly
     array-borrow-prefix-room
     slice-aggregate-bound-quickly-2

@@ -9,8 +9,8 @@ use Rattle.rows.proofs.Layouts.{fronts-there, taken-apart}
 use Rattle.model.specs.Refine.{atOnce}
 use Rattle.refinement.proofs.Demands.{at-once-alike}
 use Rattle.refinement.proofs.Layouts.{refined-same, refined-words-same, refined-by-shape}
-use Rattle.analysis.proofs.refine_at_once.Statement.{statement}
-use Rattle.analysis.proofs.refine_at_once.Tie as tie
+use Rattle.analysis.proofs.at_once.refine_at_once.Statement.{statement}
+use Rattle.analysis.proofs.at_once.refine_at_once.Tie as tie
 
 slice-aggregate-take-apart : tie.Need-slice-aggregate-take-apart
 slice-aggregate-take-apart c = search needs

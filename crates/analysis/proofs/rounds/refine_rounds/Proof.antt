@@ -9,8 +9,8 @@ use Rattle.rows.proofs.Layouts.{fronts-there, taken-apart}
 use Rattle.model.specs.Refine.{rounds}
 use Rattle.refinement.proofs.Demands.{rounds-alike}
 use Rattle.refinement.proofs.Layouts.{refined-same, refined-words-same, refined-by-shape}
-use Rattle.analysis.proofs.refine_rounds.Statement.{statement}
-use Rattle.analysis.proofs.refine_rounds.Tie as tie
+use Rattle.analysis.proofs.rounds.refine_rounds.Statement.{statement}
+use Rattle.analysis.proofs.rounds.refine_rounds.Tie as tie
 
 slice-aggregate-take-apart : tie.Need-slice-aggregate-take-apart
 slice-aggregate-take-apart c = search needs

@@ -1,26 +1,25 @@
--- `refine_at_once_columns` answers by its refusal, or lends the front of the words to the engine: the laws of both entries, at this engine.
+-- `refine_rounds_columns` answers by its refusal, or lends the front of the words to the engine: the laws of both entries, at this engine.
 use borrow.Author.Needs.{needs}
 use mathlib.Core.Path.{_≡_, sym, _∙_, ap}
 use denote.Ref.{now}
 use lib.ListN.{length}
 use lib.Seq.{length-take-le}
-use Rattle.model.specs.Refine.{atOnce}
-use Rattle.model.proofs.Sheet.{few-rows}
+use Rattle.model.specs.Refine.{rounds}
 use Rattle.rows.specs.declared.Refusal.{Refusal}
 use Rattle.rows.specs.Layouts.{inColumns}
 use Rattle.rows.specs.Inner.{Even}
 use Rattle.rows.proofs.Layouts.{columns-even}
 use Rattle.refinement.specs.Refinement.{refineRefusalIn, Refinable}
-use Rattle.refinement.proofs.Refinement.{refining, at-once-length, refine-refused, refine-answered, handed-whole}
+use Rattle.refinement.proofs.Refinement.{refining, rounds-length, refine-refused, refine-answered, handed-whole}
 use native.Mathlib.Omega.{arith}
-use Rattle.analysis.proofs.refine_at_once_columns.Statement.{statement}
-use Rattle.analysis.proofs.refine_at_once_columns.Tie as tie
+use Rattle.analysis.proofs.rounds.refine_rounds_columns.Statement.{statement}
+use Rattle.analysis.proofs.rounds.refine_rounds_columns.Tie as tie
 
 refine-refusal-requires : tie.Need-refine-refusal-requires
 refine-refusal-requires c κs = search needs
 
 returns : tie.Need-returns
-returns c = refine-refused atOnce _ _ _ _ _ _ (c .before .refine-refusal .ensures) (c .if1 .taken)
+returns c = refine-refused rounds _ _ _ _ _ _ (c .before .refine-refusal .ensures) (c .if1 .taken)
 
 -- Past the test the refusal's number is 0.
 passed : (c : tie.Else1) → let p = c .before .before .before .before .before .before in
@@ -36,26 +35,22 @@ facts c = refining _ _ _ _ _ _ (passed c)
 counted : (c : tie.Else1) → let p = c .before .before .before .before .before .before in Even (now (p .args .costs)) (now (p .args .deadlines)) (now (p .args .periods))
 counted c = columns-even _ _ _ (facts c .posed .laid)
 
-cast-count : tie.Need-cast-count
-cast-count c = omega (arith, few-rows _ (facts c .posed .sizes), counted c .costs-each)
+slice-relend-prefix-run-rounds : tie.Need-slice-relend-prefix-run-rounds
+slice-relend-prefix-run-rounds c = omega (arith, facts c .enough, counted c .costs-each)
 
-slice-relend-prefix-run-at-once : tie.Need-slice-relend-prefix-run-at-once
-slice-relend-prefix-run-at-once c = omega (arith, facts c .enough, counted c .costs-each)
-
-slice-aggregate-run-at-once : tie.Need-slice-aggregate-run-at-once
-slice-aggregate-run-at-once c =
+slice-aggregate-run-rounds : tie.Need-slice-aggregate-run-rounds
+slice-aggregate-run-rounds c =
     let p = c .before .before .before .before .before .before .before in
     sym (length-take-le (length (now (p .args .costs))) (now (p .args .bounds)) (omega (arith, facts (c .before) .enough, counted (c .before) .costs-each)))
 
-run-at-once-requires : tie.Need-run-at-once-requires
-run-at-once-requires c κs =
+run-rounds-requires : tie.Need-run-rounds-requires
+run-rounds-requires c κs =
     let p = c .before .before .before .before .before .before .before in
     let known = facts (c .before) in
     let even = counted (c .before) in (
       known .posed .sizes,
-      even .costs-each,
       known .posed .some-processor,
-      length-take-le (length (now (p .args .costs))) (now (p .args .bounds)) (omega (arith, known .enough, even .costs-each)),
+      length-take-le (length (now (p .args .costs))) (now (p .args .bounds)) (omega (arith, known .enough, even .costs-each)) ∙ even .costs-each,
       known .posed .few,
       even,
     )
@@ -66,18 +61,17 @@ same-length c = search needs
 returns-2 : tie.Need-returns-2
 returns-2 c =
     let run = c .before .before in
-    refine-answered atOnce _ _ _ _ _ (passed (run .before .before)) _ _ _ (run .run-at-once .ensures .0) (run .run-at-once .ensures .1 ∙ handed-whole _ _ _ _)
-    (ap length (run .run-at-once .ensures .1) ∙ at-once-length _ _ _ ∙ sym (counted (run .before .before) .costs-each))
+    refine-answered rounds _ _ _ _ _ (passed (run .before .before)) _ _ _ (run .run-rounds .ensures .0) (run .run-rounds .ensures .1 ∙ handed-whole _ _ _ _)
+    (ap length (run .run-rounds .ensures .1) ∙ rounds-length _ _ _ ∙ sym (counted (run .before .before) .costs-each))
 
-pub refine-at-once-columns-spec : {M : Type 1} → statement M
-refine-at-once-columns-spec =
+pub refine-rounds-columns-spec : {M : Type 1} → statement M
+refine-rounds-columns-spec =
     tie.close
     (tie.spec
     refine-refusal-requires
     returns
-    cast-count
-    slice-relend-prefix-run-at-once
-    slice-aggregate-run-at-once
-    run-at-once-requires
+    slice-relend-prefix-run-rounds
+    slice-aggregate-run-rounds
+    run-rounds-requires
     same-length
     returns-2)
