@@ -12,14 +12,14 @@ use Rattle.model.proofs.Sheet.{row-sized}
 use Rattle.rows.specs.declared.Found.{Found}
 use Rattle.rows.specs.declared.Found.the-variants.{At, Nowhere}
 use Rattle.rows.specs.declared.Refusal.{Refusal}
-use Rattle.rows.specs.Words.{sheetOf, boundOr, boundNumber}
-use Rattle.rows.specs.Checks.{notWhole}
+use Rattle.rows.specs.Words.{boundOr, boundNumber}
+use Rattle.rows.specs.Layouts.{Lent}
 use Rattle.rows.proofs.Words.{found-some}
 use Rattle.refinement.specs.declared.OneRow.{OneRow}
-use Rattle.refinement.specs.Question.{oneRowRefusalOf, oneRowOf, oneRow}
+use Rattle.refinement.specs.Question.{oneRowRefusalOf, oneRowOf, oneRowIn}
 use Rattle.refinement.proofs.Question.{asked, one-row-answered, one-row-refused, one-row-keeps}
 use Rattle.verdict.specs.declared.Answer.{Answer}
-use Rattle.verdict.specs.OneProcessor.{oneProcessor}
+use Rattle.verdict.specs.OneProcessor.{oneProcessorIn}
 use Rattle.verdict.proofs.Promised.{numbers-fix, refused-zeros, keeps}
 use Rattle.board.specs.declared.RowNumbers.{RowNumbers}
 use Rattle.board.specs.declared.OutcomeNumbers.{OutcomeNumbers}
@@ -30,14 +30,14 @@ abbrev pub Positive : Found → Type 0
 Positive found = (bound : ℕ) → found ≡ At bound → 1 ≤ bound
 
 -- The entry answers no bound of 0.
-pub bound-positive : (words : List ℕ) (m method : ℕ) (R : List ℕ) (row : ℕ) → Positive ((oneRow words m method R row) .answer)
-bound-positive words m method R row = decided (ℕ-discrete (refusal .number) 0)
+pub bound-positive : (lent : Lent) (m method : ℕ) (R : List ℕ) (row : ℕ) → Positive ((oneRowIn lent m method R row) .answer)
+bound-positive lent m method R row = decided (ℕ-discrete (refusal .number) 0)
   where
     s : Sheet
-    s = sheetOf words
+    s = lent .sheet
 
     refusal : Refusal
-    refusal = oneRowRefusalOf (notWhole words) s m method R row
+    refusal = oneRowRefusalOf (lent .broken) s m method R row
 
     decided : Dec (refusal .number ≡ 0) → Positive ((oneRowOf refusal s m method R row) .answer)
     decided (yes zero) =
@@ -74,21 +74,21 @@ outcome-fixed r q same =
     λ i. record { refusal = (same i) .refusal; place = (same i) .place; outcome = outcomes i }
 
 -- Refused, every number of the two answers but the refusal's own number and place is 0.
-pub row-zero : (words : List ℕ) (m method : ℕ) (R : List ℕ) (row : ℕ) → ((rowInNumbers (oneRow words m method R row)) .refusal ≡ 0 → ⊥)
-    → (rowInNumbers (oneRow words m method R row)) .bound ≡ 0
+pub row-zero : (lent : Lent) (m method : ℕ) (R : List ℕ) (row : ℕ) → ((rowInNumbers (oneRowIn lent m method R row)) .refusal ≡ 0 → ⊥)
+    → (rowInNumbers (oneRowIn lent m method R row)) .bound ≡ 0
 unfolding rowInNumbers boundOr
-row-zero words m method R row one-holds = ap boundNumber (one-row-keeps _ (sheetOf words) m method R row .nothing one-holds)
+row-zero lent m method R row one-holds = ap boundNumber (one-row-keeps _ (lent .sheet) m method R row .nothing one-holds)
 
-pub outcome-zeros : (words : List ℕ) (h : ℕ) → ((outcomeInNumbers (oneProcessor words h)) .refusal ≡ 0 → ⊥)
-    → ((outcomeInNumbers (oneProcessor words h)) .outcome ≡ 0) × ((outcomeInNumbers (oneProcessor words h)) .length ≡ 0)
+pub outcome-zeros : (lent : Lent) (h : ℕ) → ((outcomeInNumbers (oneProcessorIn lent h)) .refusal ≡ 0 → ⊥)
+    → ((outcomeInNumbers (oneProcessorIn lent h)) .outcome ≡ 0) × ((outcomeInNumbers (oneProcessorIn lent h)) .length ≡ 0)
 unfolding outcomeInNumbers
-outcome-zeros words h one-holds = refused-zeros _ _ h (λ zero. one-holds (keeps _ _ h .number ∙ zero))
+outcome-zeros lent h one-holds = refused-zeros _ _ h (λ zero. one-holds (keeps _ _ h .number ∙ zero))
 
 -- Two results that the contracts of the two functions allow are equal.
-pub row-numbers-unique : (words : List ℕ) (m method : ℕ) (R : List ℕ) (row : ℕ) (first second : RowNumbers)
-    → first ≡ rowInNumbers (oneRow words m method R row) → second ≡ rowInNumbers (oneRow words m method R row) → first ≡ second
-row-numbers-unique words m method R row first second = one-answer
+pub row-numbers-unique : (lent : Lent) (m method : ℕ) (R : List ℕ) (row : ℕ) (first second : RowNumbers)
+    → first ≡ rowInNumbers (oneRowIn lent m method R row) → second ≡ rowInNumbers (oneRowIn lent m method R row) → first ≡ second
+row-numbers-unique lent m method R row first second = one-answer
 
-pub outcome-numbers-unique : (words : List ℕ) (h : ℕ) (first second : OutcomeNumbers) → first ≡ outcomeInNumbers (oneProcessor words h)
-    → second ≡ outcomeInNumbers (oneProcessor words h) → first ≡ second
-outcome-numbers-unique words h first second = one-answer
+pub outcome-numbers-unique : (lent : Lent) (h : ℕ) (first second : OutcomeNumbers) → first ≡ outcomeInNumbers (oneProcessorIn lent h)
+    → second ≡ outcomeInNumbers (oneProcessorIn lent h) → first ≡ second
+outcome-numbers-unique lent h first second = one-answer
