@@ -105,13 +105,15 @@ fn checks_of_question(entry: Entry, kind: Kind) -> usize {
 }
 
 /// The checks of an entry on a kind in a round, with right numbers or wrong ones. With columns there are fewer than with triples, for
-/// the questions are the same, but as many where the row count matters, and more with wrong numbers, which are soon refused.
+/// the questions are the same: as many where the row count matters, more with wrong numbers, which are soon refused, and none where
+/// the horizon is long and the second program slow.
 fn checks_of_entry(entry: Entry, kind: Kind, wrong: bool) -> usize {
     let checks = checks_of_question(entry.question(), kind);
-    match (entry.takes_columns(), kind, wrong) {
-        (false, _, _) | (true, Kind::Counts, _) => checks,
-        (true, _, false) => checks.div_ceil(4),
-        (true, _, true) => checks.div_ceil(2),
+    match (entry.takes_columns(), kind) {
+        (false, _) | (true, Kind::Counts) => checks,
+        (true, Kind::Far) => 0,
+        (true, _) if wrong => checks.div_ceil(2),
+        (true, _) => checks.div_ceil(4),
     }
 }
 

@@ -9,7 +9,7 @@ use second::largest::{how_many_sets, largest};
 use second::program::DOCUMENT;
 use second::random::Random;
 use second::rows::Sheet;
-use sheets::{Kind, KINDS};
+use sheets::Kind;
 
 /// A relation: its name, the entries, kinds of sheet and sorts of numbers, right or wrong, that its calls are drawn for, how many
 /// times as often as most, and the test, which tells what is wrong where something is.
@@ -55,6 +55,21 @@ const QUICK: &[Kind] = &[
     Kind::Uneven,
 ];
 
+/// Kinds of few rows and of many, of too many and of none.
+const OF_ALL_LENGTHS: &[Kind] = &[
+    Kind::Tiny,
+    Kind::Middle,
+    Kind::Heavy,
+    Kind::Light,
+    Kind::Exponential,
+    Kind::Full,
+    Kind::Edges,
+    Kind::Counts,
+    Kind::Large,
+    Kind::Late,
+    Kind::Crowd,
+];
+
 /// How many times as often the engines are held together: 100,000 checks and more in the gate's run.
 const OFTEN: usize = 25;
 
@@ -89,7 +104,7 @@ pub const RELATIONS: [Relation; 10] = [
     ),
     Relation {
         entries: &BY_COLUMNS,
-        kinds: &KINDS,
+        kinds: OF_ALL_LENGTHS,
         wrong: &[false, true],
         ..between("columns and triples get the same answer", layouts_differ)
     },
