@@ -2,8 +2,10 @@
  * Circuitrail: whether published tests show that a task sheet meets its deadlines, for C and C++. `rt staticlib board` makes the archive to
  * link, target/staticlib/libboard.a.
  *
- * A row is a task: its cost C, its relative deadline D and its period T, in whole microseconds. Rows are lent as an array of words,
- * three a row, C then D then T, row 0 first. Two rows with equal numbers are two rows.
+ * A row is a task: its cost C, its relative deadline D and its period T, in whole microseconds. Two rows with equal numbers are two rows.
+ * Rows are lent as triples, an array of words, three a row, C then D then T, row 0 first. The functions whose names end in `_columns` are
+ * lent them as columns, three arrays of one word a row: all costs, all deadlines, all periods, row 0 first in each. For the same rows
+ * columns and triples get the same answer, the same refusal, and the same in the array written.
  *
  * Sizes allowed: 1 to 64 rows, 1 to 64 processors, 1 <= C <= D <= T <= 1,000,000, a horizon of 1 to 16,777,216.
  *
@@ -59,7 +61,8 @@ enum {
     CIRCUITRAIL_NOT_REFUSED = 0,
     CIRCUITRAIL_REFUSED_FORM = 1,       /* the sheet's bytes break the line form; place: offset of the first wrong byte, or the length
                                            where the sheet ends early */
-    CIRCUITRAIL_REFUSED_NO_ROWS = 2,    /* the words are none or not whole rows, or the sheet announces 0 rows */
+    CIRCUITRAIL_REFUSED_NO_ROWS = 2,    /* the words are none or not whole rows; a column is empty, or the three differ in length; the sheet
+                                           announces 0 rows */
     CIRCUITRAIL_REFUSED_MANY_ROWS = 3,  /* more than 64 rows */
     CIRCUITRAIL_REFUSED_PROCESSORS = 4, /* processors 0 or above 64 */
     CIRCUITRAIL_REFUSED_METHOD = 5,     /* method above 1 */
@@ -108,6 +111,16 @@ typedef struct {
 circuitrail_row circuitrail_one_row(const uint32_t *words, size_t words_length, uint32_t processors, uint32_t method,
                                     const uint32_t *bounds, size_t bounds_length, uint32_t row);
 
+/*
+ * The same with rows lent as columns: row k has the cost `costs[k]`, the deadline `deadlines[k]` and the period `periods[k]`.
+ *
+ * Checks: those of circuitrail_one_row. As in every function on columns, check 2 fails where one of the three arrays is empty or their
+ * lengths are not all equal, however many words they have, and check 3 where each has more than 64.
+ */
+circuitrail_row circuitrail_one_row_columns(const uint32_t *costs, size_t costs_length, const uint32_t *deadlines, size_t deadlines_length,
+                                            const uint32_t *periods, size_t periods_length, uint32_t processors, uint32_t method,
+                                            const uint32_t *bounds, size_t bounds_length, uint32_t row);
+
 /* The answer of a refinement. */
 typedef struct {
     uint32_t refusal;
@@ -136,6 +149,18 @@ circuitrail_refined circuitrail_refine_rounds(const uint32_t *words, size_t word
 circuitrail_refined circuitrail_refine_at_once(const uint32_t *words, size_t words_length, uint32_t processors, uint32_t method,
                                                uint32_t *bounds, size_t bounds_length);
 
+/*
+ * The two engines with rows lent as columns, in the same order. Each writes `bounds` as above.
+ *
+ * Checks: those of circuitrail_refine_rounds, 2 and 3 as in circuitrail_one_row_columns.
+ */
+circuitrail_refined circuitrail_refine_rounds_columns(const uint32_t *costs, size_t costs_length, const uint32_t *deadlines,
+                                                      size_t deadlines_length, const uint32_t *periods, size_t periods_length,
+                                                      uint32_t processors, uint32_t method, uint32_t *bounds, size_t bounds_length);
+circuitrail_refined circuitrail_refine_at_once_columns(const uint32_t *costs, size_t costs_length, const uint32_t *deadlines,
+                                                       size_t deadlines_length, const uint32_t *periods, size_t periods_length,
+                                                       uint32_t processors, uint32_t method, uint32_t *bounds, size_t bounds_length);
+
 /* The answer of the exact test for one processor. */
 typedef struct {
     uint32_t refusal;
@@ -155,6 +180,15 @@ typedef struct {
  * Checks: 2, 3, 6, 8.
  */
 circuitrail_outcome circuitrail_one_processor(const uint32_t *words, size_t words_length, uint32_t horizon);
+
+/*
+ * The same with rows lent as columns.
+ *
+ * Checks: those of circuitrail_one_processor, 2 and 3 as in circuitrail_one_row_columns.
+ */
+circuitrail_outcome circuitrail_one_processor_columns(const uint32_t *costs, size_t costs_length, const uint32_t *deadlines,
+                                                      size_t deadlines_length, const uint32_t *periods, size_t periods_length,
+                                                      uint32_t horizon);
 
 /* What reading a task sheet returns. */
 typedef struct {
@@ -202,6 +236,15 @@ circuitrail_written circuitrail_write_sheet(const uint32_t *words, size_t words_
  */
 circuitrail_written circuitrail_write_result(const uint32_t *words, size_t words_length, uint32_t processors, uint32_t method,
                                              uint8_t *out, size_t out_length);
+
+/*
+ * The same with rows lent as columns. It writes `out` as above.
+ *
+ * Checks: those of circuitrail_write_result, 2 and 3 as in circuitrail_one_row_columns.
+ */
+circuitrail_written circuitrail_write_result_columns(const uint32_t *costs, size_t costs_length, const uint32_t *deadlines,
+                                                     size_t deadlines_length, const uint32_t *periods, size_t periods_length,
+                                                     uint32_t processors, uint32_t method, uint8_t *out, size_t out_length);
 
 /*
  * The whole answer to a task sheet's bytes, as the program gives it: the result sheet by RTA, or, where circuitrail_read_sheet with 192

@@ -18,6 +18,39 @@ enum { SHEET_LENGTH = CIRCUITRAIL_SHEET_BYTES(3), RESULT_LENGTH = CIRCUITRAIL_RE
 static const uint32_t COSTLESS[9] = {2, 5, 5, 0, 5, 5, 3, 6, 6};
 static const char DAMAGED[] = "010203\n02G00002000005000005\n02000002000005000005\n02000003000006000006\n";
 
+/* S in columns, the same with no cost in row 1, and rows that are due before their periods' end. Each list as a function takes it. */
+static const uint32_t COSTS[66] = {2, 2, 3}, NO_COST[3] = {2, 0, 3}, DEADLINES[66] = {5, 5, 6}, PERIODS[66] = {5, 5, 6};
+static const uint32_t EARLY_COSTS[2] = {1, 2}, EARLY_DEADLINES[2] = {2, 3}, EARLY_PERIODS[2] = {4, 4};
+#define S_COLUMNS COSTS, 3, DEADLINES, 3, PERIODS, 3
+#define COSTLESS_COLUMNS NO_COST, 3, DEADLINES, 3, PERIODS, 3
+#define EARLY_COLUMNS EARLY_COSTS, 2, EARLY_DEADLINES, 2, EARLY_PERIODS, 2
+
+/* Lengths of the three columns that are refused, and how. */
+enum { NO_ROWS = CIRCUITRAIL_REFUSED_NO_ROWS, MANY_ROWS = CIRCUITRAIL_REFUSED_MANY_ROWS };
+static const struct {
+    size_t costs, deadlines, periods;
+    uint32_t refusal;
+} LENGTHS[] = {
+    {0, 0, 0, NO_ROWS},    {0, 3, 3, NO_ROWS},    {3, 0, 3, NO_ROWS},    {3, 3, 0, NO_ROWS},     {3, 0, 0, NO_ROWS},
+    {0, 3, 0, NO_ROWS},    {0, 0, 3, NO_ROWS},    {2, 3, 3, NO_ROWS},    {3, 2, 3, NO_ROWS},     {3, 3, 2, NO_ROWS},
+    {3, 2, 2, NO_ROWS},    {2, 3, 2, NO_ROWS},    {2, 2, 3, NO_ROWS},    {2, 1, 3, NO_ROWS},     {64, 64, 65, NO_ROWS},
+    {66, 65, 65, NO_ROWS}, {65, 66, 65, NO_ROWS}, {65, 65, 66, NO_ROWS}, {65, 65, 65, MANY_ROWS}, {66, 66, 66, MANY_ROWS},
+};
+enum { REFUSED_LENGTHS = sizeof LENGTHS / sizeof *LENGTHS };
+
+/* A list of such a length; no elements are lent by NULL. */
+static const uint32_t *lent(const uint32_t *list, size_t length) { return length > 0 ? list : NULL; }
+#define COLUMNS_OF(k) \
+    lent(COSTS, LENGTHS[k].costs), LENGTHS[k].costs, lent(DEADLINES, LENGTHS[k].deadlines), LENGTHS[k].deadlines, \
+        lent(PERIODS, LENGTHS[k].periods), LENGTHS[k].periods
+
+/* Such lengths in words. */
+static const char *lengths(size_t k) {
+    static char shown[80];
+    snprintf(shown, sizeof shown, "columns of %zu, %zu and %zu words", LENGTHS[k].costs, LENGTHS[k].deadlines, LENGTHS[k].periods);
+    return shown;
+}
+
 static const char *called;
 static unsigned passed, failed;
 
@@ -72,6 +105,22 @@ static void one_row(void) {
     is_row("no bounds", circuitrail_one_row(S, 9, 2, CIRCUITRAIL_RTA, NULL, 0, 2), CIRCUITRAIL_REFUSED_QUESTION, 0, 0);
 }
 
+static void one_row_columns(void) {
+    static const uint32_t first[3] = {5, 5, 6}, second[3] = {4, 4, 6}, early[2] = {2, 3};
+    called = "circuitrail_one_row_columns";
+    is_row("S", circuitrail_one_row_columns(S_COLUMNS, 2, CIRCUITRAIL_RTA, first, 3, 2), 0, 0, 6);
+    is_row("S, second round", circuitrail_one_row_columns(S_COLUMNS, 2, CIRCUITRAIL_RTA, second, 3, 2), 0, 0, 5);
+    is_row("S, deadlines lent as periods too",
+           circuitrail_one_row_columns(COSTS, 3, DEADLINES, 3, DEADLINES, 3, 2, CIRCUITRAIL_RTA, first, 3, 2), 0, 0, 6);
+    is_row("rows due early", circuitrail_one_row_columns(EARLY_COLUMNS, 2, CIRCUITRAIL_RTA, early, 2, 1), 0, 0, 2);
+    is_row("row without cost", circuitrail_one_row_columns(COSTLESS_COLUMNS, 2, CIRCUITRAIL_RTA, first, 3, 2), CIRCUITRAIL_REFUSED_ROW, 1,
+           0);
+    is_row("row 3", circuitrail_one_row_columns(S_COLUMNS, 2, CIRCUITRAIL_RTA, first, 3, 3), CIRCUITRAIL_REFUSED_QUESTION, 0, 0);
+    is_row("no bounds", circuitrail_one_row_columns(S_COLUMNS, 2, CIRCUITRAIL_RTA, NULL, 0, 2), CIRCUITRAIL_REFUSED_QUESTION, 0, 0);
+    for (size_t k = 0; k < REFUSED_LENGTHS; k++)
+        is_row(lengths(k), circuitrail_one_row_columns(COLUMNS_OF(k), 2, CIRCUITRAIL_RTA, first, 3, 2), LENGTHS[k].refusal, 0, 0);
+}
+
 static void is_refined(const char *what, circuitrail_refined got, uint32_t refusal, uint32_t place, uint64_t marks) {
     number(what, "refusal", got.refusal, refusal);
     number(what, "place", got.place, place);
@@ -108,6 +157,39 @@ static void refine_most_rows(const char *name, engine *run) {
     memory("64 rows", bounds, expected, sizeof bounds);
 }
 
+typedef circuitrail_refined engine_on_columns(const uint32_t *, size_t, const uint32_t *, size_t, const uint32_t *, size_t, uint32_t,
+                                              uint32_t, uint32_t *, size_t);
+
+static void refine_columns(const char *name, engine_on_columns *run) {
+    static const uint32_t unwritten[4] = {9, 9, 9, 9}, written[4] = {4, 4, 5, 9}, early[4] = {1, 2, 5, 9};
+    uint32_t bounds[4] = {9, 9, 9, 9};
+    called = name;
+    is_refined("too little room", run(S_COLUMNS, 2, CIRCUITRAIL_RTA, bounds, 2), CIRCUITRAIL_REFUSED_ROOM, 0, 0);
+    memory("too little room", bounds, unwritten, sizeof bounds);
+    is_refined("row without cost", run(COSTLESS_COLUMNS, 2, CIRCUITRAIL_RTA, bounds, 4), CIRCUITRAIL_REFUSED_ROW, 1, 0);
+    memory("row without cost", bounds, unwritten, sizeof bounds);
+    for (size_t k = 0; k < REFUSED_LENGTHS; k++) {
+        is_refined(lengths(k), run(COLUMNS_OF(k), 2, CIRCUITRAIL_RTA, bounds, 4), LENGTHS[k].refusal, 0, 0);
+        memory(lengths(k), bounds, unwritten, sizeof bounds);
+    }
+    is_refined("no room", run(S_COLUMNS, 2, CIRCUITRAIL_RTA, NULL, 0), CIRCUITRAIL_REFUSED_ROOM, 0, 0);
+    is_refined("nothing at all", run(COLUMNS_OF(0), 2, CIRCUITRAIL_RTA, NULL, 0), CIRCUITRAIL_REFUSED_NO_ROWS, 0, 0);
+    is_refined("S", run(S_COLUMNS, 2, CIRCUITRAIL_RTA, bounds, 4), 0, 0, 7);
+    memory("S", bounds, written, sizeof bounds);
+    is_refined("rows due early", run(EARLY_COLUMNS, 2, CIRCUITRAIL_RTA, bounds, 4), 0, 0, 3);
+    memory("rows due early", bounds, early, sizeof bounds);
+}
+
+/* 64 rows in columns: twins of cost 1, on a processor each. */
+static void refine_most_columns(const char *name, engine_on_columns *run) {
+    uint32_t costs[CIRCUITRAIL_MOST_ROWS], deadlines[CIRCUITRAIL_MOST_ROWS], bounds[CIRCUITRAIL_MOST_ROWS];
+    called = name;
+    for (size_t k = 0; k < CIRCUITRAIL_MOST_ROWS; k++)
+        costs[k] = 1, deadlines[k] = 1000000;
+    is_refined("64 rows", run(costs, 64, deadlines, 64, deadlines, 64, 64, CIRCUITRAIL_RTA, bounds, 64), 0, 0, UINT64_MAX);
+    memory("64 rows", bounds, costs, sizeof bounds);
+}
+
 static void is_outcome(const char *what, circuitrail_outcome got, uint32_t refusal, uint32_t place, uint32_t outcome, uint32_t length) {
     number(what, "refusal", got.refusal, refusal);
     number(what, "place", got.place, place);
@@ -124,6 +206,17 @@ static void one_processor(void) {
     is_outcome("horizon 0", circuitrail_one_processor(S, 9, 0), CIRCUITRAIL_REFUSED_HORIZON, 0, 0, 0);
     is_outcome("row without cost", circuitrail_one_processor(COSTLESS, 9, 5), CIRCUITRAIL_REFUSED_ROW, 1, 0, 0);
     is_outcome("no words", circuitrail_one_processor(NULL, 0, 5), CIRCUITRAIL_REFUSED_NO_ROWS, 0, 0, 0);
+}
+
+static void one_processor_columns(void) {
+    called = "circuitrail_one_processor_columns";
+    is_outcome("S", circuitrail_one_processor_columns(S_COLUMNS, 16777216), 0, 0, CIRCUITRAIL_MISS, 6);
+    is_outcome("S up to 5", circuitrail_one_processor_columns(S_COLUMNS, 5), 0, 0, CIRCUITRAIL_UNDECIDED, 0);
+    is_outcome("rows due early", circuitrail_one_processor_columns(EARLY_COLUMNS, 3), 0, 0, CIRCUITRAIL_FITS, 3);
+    is_outcome("horizon 0", circuitrail_one_processor_columns(S_COLUMNS, 0), CIRCUITRAIL_REFUSED_HORIZON, 0, 0, 0);
+    is_outcome("row without cost", circuitrail_one_processor_columns(COSTLESS_COLUMNS, 5), CIRCUITRAIL_REFUSED_ROW, 1, 0, 0);
+    for (size_t k = 0; k < REFUSED_LENGTHS; k++)
+        is_outcome(lengths(k), circuitrail_one_processor_columns(COLUMNS_OF(k), 5), LENGTHS[k].refusal, 0, 0, 0);
 }
 
 /* The README's example of a sheet that RTA does not accept on one processor, and that fits there by the exact test. */
@@ -200,6 +293,32 @@ static void write_result(void) {
     bytes_hold("S", out, RESULT, RESULT_LENGTH);
 }
 
+static void write_result_columns(void) {
+    static const char EARLY[] = "110102\n1201000001\n1201000002\n";
+    uint8_t out[ROOM];
+    memset(out, '.', ROOM);
+    called = "circuitrail_write_result_columns";
+    is_written("too little room", circuitrail_write_result_columns(S_COLUMNS, 2, CIRCUITRAIL_RTA, out, RESULT_LENGTH - 1),
+               CIRCUITRAIL_REFUSED_ROOM, 0, 0);
+    bytes_hold("too little room", out, "", 0);
+    is_written("row without cost", circuitrail_write_result_columns(COSTLESS_COLUMNS, 2, CIRCUITRAIL_RTA, out, ROOM),
+               CIRCUITRAIL_REFUSED_ROW, 1, 0);
+    bytes_hold("row without cost", out, "", 0);
+    is_written("method 2", circuitrail_write_result_columns(S_COLUMNS, 2, 2, out, ROOM), CIRCUITRAIL_REFUSED_METHOD, 0, 0);
+    bytes_hold("method 2", out, "", 0);
+    for (size_t k = 0; k < REFUSED_LENGTHS; k++) {
+        is_written(lengths(k), circuitrail_write_result_columns(COLUMNS_OF(k), 2, CIRCUITRAIL_RTA, out, ROOM), LENGTHS[k].refusal, 0, 0);
+        bytes_hold(lengths(k), out, "", 0);
+    }
+    is_written("no room", circuitrail_write_result_columns(S_COLUMNS, 2, CIRCUITRAIL_RTA, NULL, 0), CIRCUITRAIL_REFUSED_ROOM, 0, 0);
+    is_written("nothing at all", circuitrail_write_result_columns(COLUMNS_OF(0), 2, CIRCUITRAIL_RTA, NULL, 0), CIRCUITRAIL_REFUSED_NO_ROWS,
+               0, 0);
+    is_written("rows due early", circuitrail_write_result_columns(EARLY_COLUMNS, 2, CIRCUITRAIL_RTA, out, ROOM), 0, 0, sizeof EARLY - 1);
+    bytes_hold("rows due early", out, EARLY, sizeof EARLY - 1);
+    is_written("S", circuitrail_write_result_columns(S_COLUMNS, 2, CIRCUITRAIL_RTA, out, ROOM), 0, 0, RESULT_LENGTH);
+    bytes_hold("S", out, RESULT, RESULT_LENGTH);
+}
+
 /* A refused sheet has an answer too: the line that says why. */
 static void answer_sheet(void) {
     uint8_t out[ROOM];
@@ -220,15 +339,22 @@ static void answer_sheet(void) {
 
 int main(void) {
     one_row();
+    one_row_columns();
     refine("circuitrail_refine_rounds", circuitrail_refine_rounds);
     refine("circuitrail_refine_at_once", circuitrail_refine_at_once);
     refine_most_rows("circuitrail_refine_rounds", circuitrail_refine_rounds);
     refine_most_rows("circuitrail_refine_at_once", circuitrail_refine_at_once);
+    refine_columns("circuitrail_refine_rounds_columns", circuitrail_refine_rounds_columns);
+    refine_columns("circuitrail_refine_at_once_columns", circuitrail_refine_at_once_columns);
+    refine_most_columns("circuitrail_refine_rounds_columns", circuitrail_refine_rounds_columns);
+    refine_most_columns("circuitrail_refine_at_once_columns", circuitrail_refine_at_once_columns);
     one_processor();
+    one_processor_columns();
     not_accepted_and_fits();
     read_sheet();
     write_sheet();
     write_result();
+    write_result_columns();
     answer_sheet();
     printf("%u passed, %u failed\n", passed, failed);
     return failed == 0 ? 0 : 1;

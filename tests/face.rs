@@ -50,6 +50,9 @@ struct Written {
 
 type Engine = unsafe extern "C" fn(*const u32, usize, u32, u32, *mut u32, usize) -> Refined;
 
+type ColumnEngine =
+    unsafe extern "C" fn(*const u32, usize, *const u32, usize, *const u32, usize, u32, u32, *mut u32, usize) -> Refined;
+
 #[link(name = "board", kind = "static")]
 extern "C" {
     fn circuitrail_one_row(
@@ -68,6 +71,26 @@ extern "C" {
         words: *const u32, words_length: usize, processors: u32, method: u32, out: *mut u8, out_length: usize,
     ) -> Written;
     fn circuitrail_answer_sheet(bytes: *const u8, bytes_length: usize, out: *mut u8, out_length: usize) -> Written;
+    fn circuitrail_one_row_columns(
+        costs: *const u32, costs_length: usize, deadlines: *const u32, deadlines_length: usize, periods: *const u32, periods_length: usize,
+        processors: u32, method: u32, bounds: *const u32, bounds_length: usize, row: u32,
+    ) -> Row;
+    fn circuitrail_refine_rounds_columns(
+        costs: *const u32, costs_length: usize, deadlines: *const u32, deadlines_length: usize, periods: *const u32, periods_length: usize,
+        processors: u32, method: u32, bounds: *mut u32, bounds_length: usize,
+    ) -> Refined;
+    fn circuitrail_refine_at_once_columns(
+        costs: *const u32, costs_length: usize, deadlines: *const u32, deadlines_length: usize, periods: *const u32, periods_length: usize,
+        processors: u32, method: u32, bounds: *mut u32, bounds_length: usize,
+    ) -> Refined;
+    fn circuitrail_one_processor_columns(
+        costs: *const u32, costs_length: usize, deadlines: *const u32, deadlines_length: usize, periods: *const u32, periods_length: usize,
+        horizon: u32,
+    ) -> Outcome;
+    fn circuitrail_write_result_columns(
+        costs: *const u32, costs_length: usize, deadlines: *const u32, deadlines_length: usize, periods: *const u32, periods_length: usize,
+        processors: u32, method: u32, out: *mut u8, out_length: usize,
+    ) -> Written;
 }
 
 const BCL: u32 = 0;
@@ -81,6 +104,30 @@ const RESULT: &[u8] = b"110103\n1201000004\n1201000004\n1201000005\n";
 // S with no cost in row 1, and S with a letter that is no digit at offset 9.
 const COSTLESS: [u32; 9] = [2, 5, 5, 0, 5, 5, 3, 6, 6];
 const DAMAGED: &[u8] = b"010203\n02G00002000005000005\n02000002000005000005\n02000003000006000006\n";
+
+// Costs, deadlines and periods.
+type Columns<'a> = [&'a [u32]; 3];
+
+// S in columns, the same with no cost in row 1, and rows that are due before their periods' end.
+const S_COLUMNS: Columns = [&[2, 2, 3], &[5, 5, 6], &[5, 5, 6]];
+const COSTLESS_COLUMNS: Columns = [&[2, 0, 3], &[5, 5, 6], &[5, 5, 6]];
+const EARLY_COLUMNS: Columns = [&[1, 2], &[2, 3], &[4, 4]];
+
+// Columns of lengths that are refused: their lengths in words, themselves, and the refusal's number.
+fn refused_columns() -> Vec<(String, Columns<'static>, u32)> {
+    const WORDS: &[u32] = &[1; 66];
+    let [empty, two, three, long, longer] = [&WORDS[..0], &WORDS[..2], &WORDS[..3], &WORDS[..65], WORDS];
+    let unequal = [
+        [empty, empty, empty], [empty, three, three], [three, empty, three], [three, three, empty],
+        [three, empty, empty], [empty, three, empty], [empty, empty, three],
+        [two, three, three], [three, two, three], [three, three, two], [three, two, two], [two, three, two], [two, two, three],
+        [two, three, long], [longer, long, long], [long, longer, long], [long, long, longer],
+    ];
+    let many = [[long, long, long], [longer, longer, longer]];
+    let all = unequal.iter().map(|columns| (columns, 2)).chain(many.iter().map(|columns| (columns, 3)));
+    let lengths = |columns: &Columns| format!("columns of {}, {} and {} words", columns[0].len(), columns[1].len(), columns[2].len());
+    all.map(|(columns, refusal)| (lengths(columns), *columns, refusal)).collect()
+}
 
 struct Tally {
     passed: u32,
@@ -119,6 +166,26 @@ fn one_row(tally: &mut Tally) {
     tally.same("one row, null bounds", without_bounds, is(9, 0, 0));
 }
 
+fn one_row_columns(tally: &mut Tally) {
+    let ask = |[c, d, t]: Columns, bounds: &[u32], row: u32| unsafe {
+        circuitrail_one_row_columns(
+            c.as_ptr(), c.len(), d.as_ptr(), d.len(), t.as_ptr(), t.len(), 2, RTA, bounds.as_ptr(), bounds.len(), row,
+        )
+    };
+    let is = |refusal, place, bound| Row { refusal, place, bound };
+    tally.same("one row of columns, S", ask(S_COLUMNS, &[5, 5, 6], 2), is(0, 0, 6));
+    tally.same("one row of columns, S, second round", ask(S_COLUMNS, &[4, 4, 6], 2), is(0, 0, 5));
+    tally.same("one row of columns, rows due early", ask(EARLY_COLUMNS, &[2, 3], 1), is(0, 0, 2));
+    tally.same("one row of columns, row without cost", ask(COSTLESS_COLUMNS, &[5, 5, 6], 2), is(8, 1, 0));
+    tally.same("one row of columns, row 3", ask(S_COLUMNS, &[5, 5, 6], 3), is(9, 0, 0));
+    tally.same("one row of columns, no bounds", ask(S_COLUMNS, &[], 2), is(9, 0, 0));
+    for (lengths, columns, refusal) in refused_columns() {
+        tally.same(&format!("one row, {lengths}"), ask(columns, &[5, 5, 6], 2), is(refusal, 0, 0));
+    }
+    let without_columns = unsafe { circuitrail_one_row_columns(null(), 0, null(), 0, null(), 0, 2, RTA, S.as_ptr(), 3, 2) };
+    tally.same("one row of columns, null columns", without_columns, is(2, 0, 0));
+}
+
 fn refine(tally: &mut Tally, name: &str, engine: Engine) {
     let ask = |words: &[u32], bounds: &mut [u32]| unsafe {
         engine(words.as_ptr(), words.len(), 2, RTA, bounds.as_mut_ptr(), bounds.len())
@@ -136,11 +203,41 @@ fn refine(tally: &mut Tally, name: &str, engine: Engine) {
     tally.same(&format!("{name}, S, bounds"), bounds, [4, 4, 5, 9]);
 }
 
+fn refine_columns(tally: &mut Tally, name: &str, engine: ColumnEngine) {
+    let ask = |[c, d, t]: Columns, bounds: &mut [u32]| unsafe {
+        engine(c.as_ptr(), c.len(), d.as_ptr(), d.len(), t.as_ptr(), t.len(), 2, RTA, bounds.as_mut_ptr(), bounds.len())
+    };
+    let is = |refusal, place, marks| Refined { refusal, place, marks };
+    let mut bounds = [9u32; 4];
+    tally.same(&format!("{name}, too little room"), ask(S_COLUMNS, &mut bounds[..2]), is(7, 0, 0));
+    tally.same(&format!("{name}, row without cost"), ask(COSTLESS_COLUMNS, &mut bounds), is(8, 1, 0));
+    for (lengths, columns, refusal) in refused_columns() {
+        tally.same(&format!("{name}, {lengths}"), ask(columns, &mut bounds), is(refusal, 0, 0));
+    }
+    let without_columns = unsafe { engine(null(), 0, null(), 0, null(), 0, 2, RTA, bounds.as_mut_ptr(), 4) };
+    tally.same(&format!("{name}, null columns"), without_columns, is(2, 0, 0));
+    tally.same(&format!("{name}, refused"), bounds, [9; 4]);
+    tally.same(&format!("{name}, no room"), ask(S_COLUMNS, &mut []), is(7, 0, 0));
+    tally.same(&format!("{name}, S"), ask(S_COLUMNS, &mut bounds), is(0, 0, 7));
+    tally.same(&format!("{name}, S, bounds"), bounds, [4, 4, 5, 9]);
+    tally.same(&format!("{name}, rows due early"), ask(EARLY_COLUMNS, &mut bounds), is(0, 0, 3));
+    tally.same(&format!("{name}, rows due early, bounds"), bounds, [1, 2, 5, 9]);
+}
+
 // With 64 rows, each of which is marked, every bit of the marks is set.
 fn refine_most_rows(tally: &mut Tally, name: &str, engine: Engine) {
     let words = [1, 1_000_000, 1_000_000].repeat(64);
     let mut bounds = [0u32; 64];
     let got = unsafe { engine(words.as_ptr(), words.len(), 64, RTA, bounds.as_mut_ptr(), bounds.len()) };
+    tally.same(&format!("{name}, 64 rows"), got, Refined { refusal: 0, place: 0, marks: u64::MAX });
+    tally.same(&format!("{name}, 64 rows, bounds"), bounds, [1; 64]);
+}
+
+fn refine_most_columns(tally: &mut Tally, name: &str, engine: ColumnEngine) {
+    let (costs, deadlines) = ([1u32; 64], [1_000_000u32; 64]);
+    let (c, d) = (costs.as_ptr(), deadlines.as_ptr());
+    let mut bounds = [0u32; 64];
+    let got = unsafe { engine(c, 64, d, 64, d, 64, 64, RTA, bounds.as_mut_ptr(), bounds.len()) };
     tally.same(&format!("{name}, 64 rows"), got, Refined { refusal: 0, place: 0, marks: u64::MAX });
     tally.same(&format!("{name}, 64 rows, bounds"), bounds, [1; 64]);
 }
@@ -155,6 +252,23 @@ fn one_processor(tally: &mut Tally) {
     tally.same("one processor, row without cost", ask(&COSTLESS, 5), is(8, 1, 0, 0));
     tally.same("one processor, no words", ask(&[], 5), is(2, 0, 0, 0));
     tally.same("one processor, null words", unsafe { circuitrail_one_processor(null(), 0, 5) }, is(2, 0, 0, 0));
+}
+
+fn one_processor_columns(tally: &mut Tally) {
+    let ask = |[c, d, t]: Columns, horizon: u32| unsafe {
+        circuitrail_one_processor_columns(c.as_ptr(), c.len(), d.as_ptr(), d.len(), t.as_ptr(), t.len(), horizon)
+    };
+    let is = |refusal, place, outcome, length| Outcome { refusal, place, outcome, length };
+    tally.same("one processor of columns, S", ask(S_COLUMNS, 16_777_216), is(0, 0, 1, 6));
+    tally.same("one processor of columns, S up to 5", ask(S_COLUMNS, 5), is(0, 0, 0, 0));
+    tally.same("one processor of columns, rows due early", ask(EARLY_COLUMNS, 3), is(0, 0, 2, 3));
+    tally.same("one processor of columns, horizon 0", ask(S_COLUMNS, 0), is(6, 0, 0, 0));
+    tally.same("one processor of columns, row without cost", ask(COSTLESS_COLUMNS, 5), is(8, 1, 0, 0));
+    for (lengths, columns, refusal) in refused_columns() {
+        tally.same(&format!("one processor, {lengths}"), ask(columns, 5), is(refusal, 0, 0, 0));
+    }
+    let without_columns = unsafe { circuitrail_one_processor_columns(null(), 0, null(), 0, null(), 0, 5) };
+    tally.same("one processor of columns, null columns", without_columns, is(2, 0, 0, 0));
 }
 
 fn read_sheet(tally: &mut Tally) {
@@ -219,6 +333,31 @@ fn write_result(tally: &mut Tally) {
     tally.same("write result, S, bytes", out, holding(RESULT));
 }
 
+fn write_result_columns(tally: &mut Tally) {
+    let ask = |[c, d, t]: Columns, method: u32, out: &mut [u8]| unsafe {
+        circuitrail_write_result_columns(
+            c.as_ptr(), c.len(), d.as_ptr(), d.len(), t.as_ptr(), t.len(), 2, method, out.as_mut_ptr(), out.len(),
+        )
+    };
+    let is = |refusal, place, length| Written { refusal, place, length };
+    let mut out = holding(b"");
+    tally.same("write result of columns, too little room", ask(S_COLUMNS, RTA, &mut out[..39]), is(7, 0, 0));
+    tally.same("write result of columns, row without cost", ask(COSTLESS_COLUMNS, RTA, &mut out), is(8, 1, 0));
+    tally.same("write result of columns, method 2", ask(S_COLUMNS, 2, &mut out), is(5, 0, 0));
+    for (lengths, columns, refusal) in refused_columns() {
+        tally.same(&format!("write result, {lengths}"), ask(columns, RTA, &mut out), is(refusal, 0, 0));
+    }
+    let without_columns =
+        unsafe { circuitrail_write_result_columns(null(), 0, null(), 0, null(), 0, 2, RTA, out.as_mut_ptr(), ROOM) };
+    tally.same("write result of columns, null columns", without_columns, is(2, 0, 0));
+    tally.same("write result of columns, refused", out, holding(b""));
+    tally.same("write result of columns, no room", ask(S_COLUMNS, RTA, &mut []), is(7, 0, 0));
+    tally.same("write result of columns, rows due early", ask(EARLY_COLUMNS, RTA, &mut out), is(0, 0, 29));
+    tally.same("write result of columns, rows due early, bytes", out, holding(b"110102\n1201000001\n1201000002\n"));
+    tally.same("write result of columns, S", ask(S_COLUMNS, RTA, &mut out), is(0, 0, 40));
+    tally.same("write result of columns, S, bytes", out, holding(RESULT));
+}
+
 // A refused sheet has an answer too: the line that says why.
 fn answer_sheet(tally: &mut Tally) {
     let ask = |bytes: &[u8], out: &mut [u8]| unsafe {
@@ -245,14 +384,25 @@ fn answer_sheet(tally: &mut Tally) {
 pub extern "C" fn main() -> i32 {
     let mut tally = Tally { passed: 0, failed: 0 };
     one_row(&mut tally);
+    one_row_columns(&mut tally);
     for (name, engine) in [("rounds", circuitrail_refine_rounds as Engine), ("at once", circuitrail_refine_at_once)] {
         refine(&mut tally, name, engine);
         refine_most_rows(&mut tally, name, engine);
     }
+    let engines: [(_, ColumnEngine); 2] = [
+        ("columns in rounds", circuitrail_refine_rounds_columns),
+        ("columns at once", circuitrail_refine_at_once_columns),
+    ];
+    for (name, engine) in engines {
+        refine_columns(&mut tally, name, engine);
+        refine_most_columns(&mut tally, name, engine);
+    }
     one_processor(&mut tally);
+    one_processor_columns(&mut tally);
     read_sheet(&mut tally);
     write_sheet(&mut tally);
     write_result(&mut tally);
+    write_result_columns(&mut tally);
     answer_sheet(&mut tally);
     println!("{} passed, {} failed", tally.passed, tally.failed);
     i32::from(tally.failed > 0)

@@ -27,9 +27,10 @@ static void check(int holds, const char *name, const char *what) {
 }
 
 /* What the calls are made with, and what the last one answered. */
-static uint32_t words[WORDS], bounds[ROWS], lent[WORDS], processors, method, row, horizon, refusal;
+static uint32_t words[WORDS], costs[ROWS], deadlines[ROWS], periods[ROWS], bounds[ROWS], lent[WORDS];
+static uint32_t processors, method, row, horizon, refusal;
 static uint8_t sheet[CIRCUITRAIL_SHEET_BYTES(ROWS)], out[CIRCUITRAIL_SHEET_BYTES(ROWS)];
-static size_t words_length, sheet_length;
+static size_t words_length, rows, sheet_length;
 
 /* The frame that a call was made from, and the painted stack. */
 static char *top;
@@ -39,7 +40,7 @@ static ucontext_t here, there;
 /* Each function, called with all that is set above. */
 static void one_row(void) {
     top = __builtin_frame_address(0);
-    refusal = circuitrail_one_row(words, words_length, processors, method, bounds, words_length / 3, row).refusal;
+    refusal = circuitrail_one_row(words, words_length, processors, method, bounds, rows, row).refusal;
 }
 static void refine_rounds(void) {
     top = __builtin_frame_address(0);
@@ -68,6 +69,27 @@ static void write_result(void) {
 static void answer_sheet(void) {
     top = __builtin_frame_address(0);
     refusal = circuitrail_answer_sheet(sheet, sheet_length, out, sizeof out).refusal;
+}
+
+static void one_row_columns(void) {
+    top = __builtin_frame_address(0);
+    refusal = circuitrail_one_row_columns(costs, rows, deadlines, rows, periods, rows, processors, method, bounds, rows, row).refusal;
+}
+static void refine_rounds_columns(void) {
+    top = __builtin_frame_address(0);
+    refusal = circuitrail_refine_rounds_columns(costs, rows, deadlines, rows, periods, rows, processors, method, lent, ROWS).refusal;
+}
+static void refine_at_once_columns(void) {
+    top = __builtin_frame_address(0);
+    refusal = circuitrail_refine_at_once_columns(costs, rows, deadlines, rows, periods, rows, processors, method, lent, ROWS).refusal;
+}
+static void one_processor_columns(void) {
+    top = __builtin_frame_address(0);
+    refusal = circuitrail_one_processor_columns(costs, rows, deadlines, rows, periods, rows, horizon).refusal;
+}
+static void write_result_columns(void) {
+    top = __builtin_frame_address(0);
+    refusal = circuitrail_write_result_columns(costs, rows, deadlines, rows, periods, rows, processors, method, out, sizeof out).refusal;
 }
 
 /* A function that takes as much as no function may, which the measurement must see. */
@@ -113,6 +135,11 @@ static struct {
     {"circuitrail_write_sheet", write_sheet, 0},
     {"circuitrail_write_result", write_result, 0},
     {"circuitrail_answer_sheet", answer_sheet, 0},
+    {"circuitrail_one_row_columns", one_row_columns, 0},
+    {"circuitrail_refine_rounds_columns", refine_rounds_columns, 0},
+    {"circuitrail_refine_at_once_columns", refine_at_once_columns, 0},
+    {"circuitrail_one_processor_columns", one_processor_columns, 0},
+    {"circuitrail_write_result_columns", write_result_columns, 0},
 };
 enum { FUNCTIONS = sizeof measured / sizeof *measured };
 
@@ -120,9 +147,10 @@ enum { FUNCTIONS = sizeof measured / sizeof *measured };
 static void measure(uint32_t on) {
     processors = on;
     horizon = 16777216;
+    rows = words_length / 3;
     sheet_length = circuitrail_write_sheet(words, words_length, processors, sheet, sizeof sheet).length;
-    for (size_t k = 0; k < words_length / 3; k++)
-        bounds[k] = words[3 * k + 1];
+    for (size_t k = 0; k < rows; k++)
+        costs[k] = words[3 * k], deadlines[k] = bounds[k] = words[3 * k + 1], periods[k] = words[3 * k + 2];
     for (method = CIRCUITRAIL_BCL; method <= CIRCUITRAIL_RTA; method++)
         for (size_t f = 0; f < FUNCTIONS; f++) {
             size_t now = taken(measured[f].call);

@@ -1,6 +1,7 @@
 //! Calls with right numbers, drawn for an entry from a kind of sheet.
 
-use second::call::{Behind, Call, Entry};
+use crate::lent::with_rows;
+use second::call::{Call, Entry};
 use second::checks::room_needed;
 use second::one_processor::{verdict, Verdict};
 use second::program::DOCUMENT;
@@ -11,26 +12,25 @@ use sheets::{sheet, Kind};
 
 /// A call of an entry on a random sheet of a kind, with room for its answer and nothing wrong in it.
 pub fn right_call(entry: Entry, kind: Kind, random: &mut Random) -> Call {
-    let drawn = sheet_for(entry, kind, random);
-    let words = words_of(&drawn.rows);
+    let question = entry.question();
+    let drawn = sheet_for(question, kind, random);
     let processors = drawn.processors as u32;
     let row = row_for(&drawn.rows, random);
-    Call {
-        entry,
+    let call = Call {
         processors,
-        method: method_for(entry, kind, &drawn.rows, row, random),
+        method: method_for(question, kind, &drawn.rows, row, random),
         bounds: bounds_for(&drawn.rows, random),
         row: row as u32,
-        horizon: if entry == Entry::OneProcessor {
+        horizon: if question == Entry::OneProcessor {
             horizon_for(kind, &drawn.rows, random)
         } else {
             1
         },
-        text: sheet_text(&DOCUMENT, processors, &words).into_bytes(),
-        behind: Behind::default(),
-        room: room_needed(entry, drawn.rows.len()) + random.one_of(&[0, 0, 0, 1, 5]),
-        words,
-    }
+        text: sheet_text(&DOCUMENT, processors, &words_of(&drawn.rows)).into_bytes(),
+        room: room_needed(question, drawn.rows.len()) + random.one_of(&[0, 0, 0, 1, 5]),
+        ..Call::of(entry)
+    };
+    with_rows(call, &drawn.rows)
 }
 
 /// How many terms of sums are few enough to be tried value by value: in a pass, and for one row, which is asked only once; often,

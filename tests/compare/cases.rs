@@ -1,8 +1,10 @@
 //! Fixed cases: a call and the answer that is due.
 
+use crate::groups::entry_name;
+use crate::lent::in_columns;
 use guarded::made;
 use second::answers::answer;
-use second::call::{Answer, Behind, Call, Entry};
+use second::call::{Answer, Call, Entry};
 use second::checks::room_needed;
 use second::program::Program;
 use second::random::Random;
@@ -34,25 +36,32 @@ impl Case {
 
     /// A wrong answer in words.
     fn told(&self, who: &str, numbers: &[u64]) -> String {
-        let Case { name, due, .. } = self;
-        format!("{name}: {who} {numbers:?}, due {:?}", due.numbers)
+        let title = self.title();
+        format!("{title}: {who} {numbers:?}, due {:?}", self.due.numbers)
+    }
+
+    /// The case by its name and its entry.
+    pub fn title(&self) -> String {
+        format!("{} ({})", self.name, entry_name(self.call.entry))
+    }
+
+    /// The case with its rows in columns, where its entry has such a form.
+    pub fn in_columns(&self) -> Option<Case> {
+        let call = in_columns(&self.call)?;
+        Some(Case {
+            call,
+            ..self.clone()
+        })
     }
 }
 
 /// A call with nothing in it yet but its entry, rows and processors.
 pub fn call(entry: Entry, words: &[u32], processors: u32) -> Call {
-    let room = room_needed(entry, words.len() / 3);
     Call {
-        entry,
         words: words.to_vec(),
         processors,
-        method: 1,
-        bounds: Vec::new(),
-        row: 0,
-        horizon: 1,
-        text: Vec::new(),
-        behind: Behind::default(),
-        room,
+        room: room_needed(entry, words.len() / 3),
+        ..Call::of(entry)
     }
 }
 

@@ -7,6 +7,7 @@ use crate::rounds::{checks_in_a_round, group_round, how_many, smallest, Found};
 use crate::show::call_shown;
 use crate::threads::of_each;
 use crate::trial::Trial;
+use crate::unequal;
 use crate::worked;
 use crate::wrong::{wrong_programs, By, Wrong};
 use std::cmp::Reverse;
@@ -53,6 +54,7 @@ impl Run<'_> {
             By::Answers(entries) => self.caught_told(wrong, |group| group.holds_answers(entries)),
             By::Relation(name) => self.caught_told(wrong, |group| group.is_by(name)),
             By::NearTexts(entry) => near::first_difference(&wrong.program, *entry),
+            By::Lengths(entry) => unequal::first_difference(&wrong.program, *entry),
             By::Case(case) => case.second_wrong(&wrong.program),
         }
     }
@@ -74,7 +76,7 @@ fn worked_told(programs: &[Wrong]) -> Vec<(bool, String)> {
     of_each(&worked::cases(), |case| {
         let told_apart = |wrong: &&Wrong| case.second_wrong(&wrong.program).is_some();
         let count = programs.iter().filter(told_apart).count();
-        let line = format!("{} tells {count} wrong programs", case.name);
+        let line = format!("{} tells {count} wrong programs", case.title());
         (count > 0, line)
     })
 }

@@ -300,12 +300,19 @@ pub fn cases() -> Vec<Far> {
     .collect()
 }
 
-/// The cases that one of the programs answers otherwise.
+/// The case with its rows in columns, but for the rounds engine, which takes seconds.
+fn in_columns(far: &Far) -> Option<Case> {
+    let is_quick = far.case.call.entry != Entry::RefineRounds;
+    is_quick.then(|| far.case.in_columns()).flatten()
+}
+
+/// The cases that one of the programs answers otherwise, the proved one with rows in triples or in columns.
 pub fn wrong_cases(seed: u64) -> Vec<String> {
+    let asked = |case: &Case| case.proved_wrong(&mut Random::of([seed]));
     let wrong = |far: &Far| {
-        let proved = far.case.proved_wrong(&mut Random::of([seed]));
+        let columns = in_columns(far).and_then(|case| asked(&case));
         let second = far.second_asked.then(|| far.case.second_wrong(&DOCUMENT));
-        [proved, second.flatten()]
+        [asked(&far.case), columns, second.flatten()]
     };
     let found = of_each(&cases(), wrong);
     found.into_iter().flatten().flatten().collect()

@@ -13,21 +13,22 @@ use sheets::{Kind, KINDS};
 /// What a group looks at: an entry's answer against the second program's, or a relation between answers.
 #[derive(Clone, Copy)]
 enum Look {
-    Answer { wrong: bool },
+    Answer,
     Between(Relation),
 }
 
-/// A group of checks, and how many of them a round makes.
+/// A group of checks: its entry and kind, whether its numbers are wrong, what it looks at, and how many checks a round makes.
 #[derive(Clone, Copy)]
 pub struct Group {
     entry: Entry,
     kind: Kind,
+    wrong: bool,
     look: Look,
     pub checks: usize,
 }
 
 /// Every entry, by its name in words.
-pub const ENTRIES: [(Entry, &str); 8] = [
+pub const ENTRIES: [(Entry, &str); 13] = [
     (Entry::OneRow, "one row"),
     (Entry::RefineRounds, "refine in rounds"),
     (Entry::RefineAtOnce, "refine at once"),
@@ -36,10 +37,15 @@ pub const ENTRIES: [(Entry, &str); 8] = [
     (Entry::WriteSheet, "write a sheet"),
     (Entry::WriteResult, "write a result sheet"),
     (Entry::AnswerSheet, "answer a sheet"),
+    (Entry::OneRowColumns, "columns: one row"),
+    (Entry::RefineRoundsColumns, "columns: refine in rounds"),
+    (Entry::RefineAtOnceColumns, "columns: refine at once"),
+    (Entry::OneProcessorColumns, "columns: one processor"),
+    (Entry::WriteResultColumns, "columns: write a result sheet"),
 ];
 
 /// Every entry.
-pub static EVERY_ENTRY: [Entry; 8] = {
+pub static EVERY_ENTRY: [Entry; 13] = {
     use Entry::*;
     [
         OneRow,
@@ -50,6 +56,11 @@ pub static EVERY_ENTRY: [Entry; 8] = {
         WriteSheet,
         WriteResult,
         AnswerSheet,
+        OneRowColumns,
+        RefineRoundsColumns,
+        RefineAtOnceColumns,
+        OneProcessorColumns,
+        WriteResultColumns,
     ]
 };
 
@@ -63,7 +74,7 @@ pub fn entry_name(entry: Entry) -> &'static str {
 fn refines(entry: Entry) -> bool {
     use Entry::*;
     matches!(
-        entry,
+        entry.question(),
         RefineRounds | RefineAtOnce | WriteResult | AnswerSheet
     )
 }
@@ -82,9 +93,9 @@ fn checks_of_kind(kind: Kind) -> usize {
     }
 }
 
-/// The checks of an entry on a kind in a round. Rows that leave one processor busy for long are not refined: value by value, two
+/// The checks of a question on a kind in a round. Rows that leave one processor busy for long are not refined: value by value, two
 /// of them can take days. Where large sums are met, one row is asked about more often than a whole sheet is refined.
-fn checks_of_entry(entry: Entry, kind: Kind) -> usize {
+fn checks_of_question(entry: Entry, kind: Kind) -> usize {
     match kind {
         Kind::Far | Kind::Close if refines(entry) => 0,
         Kind::Brimming | Kind::Crowd | Kind::Uneven if entry == Entry::OneRow => 5,
@@ -93,17 +104,30 @@ fn checks_of_entry(entry: Entry, kind: Kind) -> usize {
     }
 }
 
+/// The checks of an entry on a kind in a round, with right numbers or wrong ones. With columns there are fewer than with triples, for
+/// the questions are the same: as many where the row count matters, more with wrong numbers, which are soon refused, and none where
+/// the horizon is long and the second program slow.
+fn checks_of_entry(entry: Entry, kind: Kind, wrong: bool) -> usize {
+    let checks = checks_of_question(entry.question(), kind);
+    match (entry.takes_columns(), kind) {
+        (false, _) | (true, Kind::Counts) => checks,
+        (true, Kind::Far) => 0,
+        (true, _) if wrong => checks.div_ceil(2),
+        (true, _) => checks.div_ceil(4),
+    }
+}
+
 /// The groups that hold entries against the second program.
 pub fn answer_groups() -> Vec<Group> {
     let mut groups = Vec::new();
     for (entry, _) in ENTRIES {
         for kind in KINDS {
-            let checks = checks_of_entry(entry, kind);
             groups.extend([false, true].map(|wrong| Group {
                 entry,
                 kind,
-                look: Look::Answer { wrong },
-                checks,
+                wrong,
+                look: Look::Answer,
+                checks: checks_of_entry(entry, kind, wrong),
             }));
         }
     }
@@ -113,13 +137,21 @@ pub fn answer_groups() -> Vec<Group> {
 
 /// The groups that hold answers by a relation against each other.
 pub fn groups_of(relation: Relation) -> Vec<Group> {
-    let group = |&kind: &Kind| Group {
-        entry: Entry::RefineAtOnce,
-        kind,
-        look: Look::Between(relation),
-        checks: relation.times * checks_of_kind(kind).div_ceil(4),
-    };
-    relation.kinds.iter().map(group).collect()
+    let mut groups = Vec::new();
+    for &entry in relation.entries {
+        for &kind in relation.kinds {
+            let checks = checks_of_question(entry.question(), kind);
+            groups.extend(relation.wrong.iter().map(|&wrong| Group {
+                entry,
+                kind,
+                wrong,
+                look: Look::Between(relation),
+                checks: relation.times * checks.div_ceil(4 * relation.entries.len()),
+            }));
+        }
+    }
+    groups.retain(|group| group.checks > 0);
+    groups
 }
 
 /// The groups that hold answers against each other, by every relation.
@@ -131,23 +163,24 @@ impl Group {
     /// A call of this group.
     pub fn call(&self, random: &mut Random) -> Call {
         let call = right_call(self.entry, self.kind, random);
-        match self.look {
-            Look::Answer { wrong: true } => spoiled(call, random),
-            _ => call,
+        if self.wrong {
+            spoiled(call, random)
+        } else {
+            call
         }
     }
 
     /// What is wrong with a call, if something is: a difference between the two programs, or a relation broken.
     pub fn trouble(&self, trial: Trial, call: &Call, random: &mut Random) -> Option<String> {
         match self.look {
-            Look::Answer { .. } => difference_shown(&compared(trial.second(), call, random)),
+            Look::Answer => difference_shown(&compared(trial.second(), call, random)),
             Look::Between(relation) => (relation.broken)(trial, call, random),
         }
     }
 
     /// Whether the group holds answers of one of these entries against the second program's.
     pub fn holds_answers(&self, entries: &[Entry]) -> bool {
-        matches!(self.look, Look::Answer { .. }) && entries.contains(&self.entry)
+        matches!(self.look, Look::Answer) && entries.contains(&self.entry)
     }
 
     /// Whether the group holds answers against each other by the relation of a name.
@@ -158,7 +191,7 @@ impl Group {
     /// What the group is about: an entry, or a relation.
     pub fn subject(&self) -> &'static str {
         match self.look {
-            Look::Answer { .. } => entry_name(self.entry),
+            Look::Answer => entry_name(self.entry),
             Look::Between(relation) => relation.name,
         }
     }
@@ -166,11 +199,7 @@ impl Group {
     /// The group in words.
     pub fn name(&self) -> String {
         let kind = format!("{:?}", self.kind).to_lowercase();
-        let numbers = match self.look {
-            Look::Answer { wrong: true } => ", wrong numbers",
-            Look::Answer { wrong: false } => ", right numbers",
-            Look::Between(_) => "",
-        };
-        format!("{}, {kind} sheets{numbers}", self.subject())
+        let numbers = if self.wrong { "wrong" } else { "right" };
+        format!("{}, {kind} sheets, {numbers} numbers", self.subject())
     }
 }

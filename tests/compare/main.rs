@@ -10,6 +10,8 @@ mod damage;
 mod difference;
 mod far;
 mod groups;
+mod lengths;
+mod lent;
 mod near;
 mod relations;
 mod rounds;
@@ -21,6 +23,7 @@ mod slow;
 mod spoil;
 mod threads;
 mod trial;
+mod unequal;
 mod widen;
 mod worked;
 mod wrong;
@@ -34,7 +37,7 @@ use std::process::ExitCode;
 use std::sync::atomic::Ordering;
 
 /// How many checks the gate makes.
-const GATE_CASES: u64 = 485_000;
+const GATE_CASES: u64 = 525_000;
 
 /// The gate's seed.
 const GATE_SEED: u64 = 1;
@@ -79,29 +82,37 @@ fn one_group(what: &str, found: Vec<String>) -> (usize, usize) {
     }
 }
 
-/// Everything compared: the numbers worked by hand, the cases far out, every text near a sheet's, random calls, and that all kinds
-/// of answer were met and slow sheets are slow.
+/// The sum of what some groups passed and failed.
+fn sum(parts: &[(usize, usize)]) -> (usize, usize) {
+    let add = |one: (usize, usize), other: &(usize, usize)| (one.0 + other.0, one.1 + other.1);
+    parts.iter().fold((0, 0), add)
+}
+
+/// One group: it passes where there is no difference, and else says which.
+fn no_difference(found: Option<String>) -> (usize, usize) {
+    one_group("DIFFERENCE", found.into_iter().collect())
+}
+
+/// Everything compared: the numbers worked by hand, the cases far out, every text near a sheet's, columns of every combination of
+/// lengths, random calls, and that all kinds of answer were met and slow sheets are slow.
 fn compare_all(all: &[Group], cases: u64, seed: u64) -> (usize, usize) {
-    let near = |entry: Entry| {
-        near::first_difference(&DOCUMENT, entry)
-            .into_iter()
-            .collect()
-    };
+    let near = |entry| no_difference(near::first_difference(&DOCUMENT, entry));
+    let unequal = |entry| no_difference(unequal::first_difference(&DOCUMENT, entry));
     let parts = [
         one_group(
             "WORKED BY HAND",
             worked::wrong_cases(&mut Random::of([seed])),
         ),
         one_group("FAR OUT", far::wrong_cases(seed)),
-        one_group("DIFFERENCE", near(Entry::ReadSheet)),
-        one_group("DIFFERENCE", near(Entry::AnswerSheet)),
+        near(Entry::ReadSheet),
+        near(Entry::AnswerSheet),
+        sum(&lent::BY_COLUMNS.map(unequal)),
         run::compare(all, rounds::how_many(all, cases), seed),
         one_group("NEVER MET", sightings::never_met()),
         one_group("TOO QUICK", slow::too_quick(seed).into_iter().collect()),
     ];
     println!("{} calls, seed {seed}", CALLS.load(Ordering::Relaxed));
-    let sum = |one: (usize, usize), other: &(usize, usize)| (one.0 + other.0, one.1 + other.1);
-    parts.iter().fold((0, 0), sum)
+    sum(&parts)
 }
 
 /// Compares or tests the comparison, and says how many groups passed and failed.

@@ -2,7 +2,7 @@
 
 use crate::difference::compared;
 use crate::show::{call_shown, difference_shown};
-use second::call::{Behind, Call, Entry};
+use second::call::{Call, Entry};
 use second::program::Program;
 use second::random::Random;
 
@@ -31,24 +31,11 @@ fn texts() -> Vec<Vec<u8>> {
 /// The first of these texts that the proved program reads or answers otherwise than a second one, in words.
 pub fn first_difference(program: &Program, entry: Entry) -> Option<String> {
     let mut random = Random::of([SHEET.len() as u64]);
-    let (processors, method, row, horizon) = (1, 1, 0, 1);
-    let (words, bounds) = (Vec::new(), Vec::new());
-    let call = Call {
-        entry,
-        words,
-        processors,
-        method,
-        bounds,
-        row,
-        horizon,
-        text: Vec::new(),
-        behind: Behind::default(),
-        room: 40,
-    };
     texts().into_iter().find_map(|text| {
         let call = Call {
             text,
-            ..call.clone()
+            room: 40,
+            ..Call::of(entry)
         };
         let shown = difference_shown(&compared(program, &call, &mut random))?;
         Some(format!("{}\n{shown}", call_shown(&call)))

@@ -1,5 +1,6 @@
 //! What must hold between answers of one program, whatever they are.
 
+use crate::lent::{in_triples, BY_COLUMNS};
 use crate::trial::Trial;
 use guarded::Seen;
 use second::call::{Call, Entry};
@@ -10,14 +11,31 @@ use second::random::Random;
 use second::rows::Sheet;
 use sheets::Kind;
 
-/// A relation: its name, the kinds of sheet it is tried on, how many times as often as most, and the test, which tells what is
-/// wrong where something is.
+/// A relation: its name, the entries, kinds of sheet and sorts of numbers, right or wrong, that its calls are drawn for, how many
+/// times as often as most, and the test, which tells what is wrong where something is.
 #[derive(Clone, Copy)]
 pub struct Relation {
     pub name: &'static str,
+    pub entries: &'static [Entry],
     pub kinds: &'static [Kind],
+    pub wrong: &'static [bool],
     pub times: usize,
     pub broken: fn(Trial, &Call, &mut Random) -> Option<String>,
+}
+
+/// A relation between answers about the rows of right calls, tried as often as most.
+const fn between(
+    name: &'static str,
+    broken: fn(Trial, &Call, &mut Random) -> Option<String>,
+) -> Relation {
+    Relation {
+        name,
+        entries: &[Entry::RefineAtOnce],
+        kinds: QUICK,
+        wrong: &[false],
+        times: 1,
+        broken,
+    }
 }
 
 /// Kinds whose refinement is quick.
@@ -37,64 +55,58 @@ const QUICK: &[Kind] = &[
     Kind::Uneven,
 ];
 
+/// Kinds of few rows and of many, of too many and of none.
+const OF_ALL_LENGTHS: &[Kind] = &[
+    Kind::Tiny,
+    Kind::Middle,
+    Kind::Heavy,
+    Kind::Light,
+    Kind::Exponential,
+    Kind::Full,
+    Kind::Edges,
+    Kind::Counts,
+    Kind::Large,
+    Kind::Late,
+    Kind::Crowd,
+];
+
 /// How many times as often the engines are held together: 100,000 checks and more in the gate's run.
 const OFTEN: usize = 25;
 
 /// Every relation.
-pub const RELATIONS: [Relation; 9] = [
+pub const RELATIONS: [Relation; 10] = [
     Relation {
-        name: "both engines end at the same bounds and marks",
-        kinds: QUICK,
         times: OFTEN,
-        broken: engines_differ,
+        ..between(
+            "both engines end at the same bounds and marks",
+            engines_differ,
+        )
     },
+    between(
+        "RTA is never above BCL and marks what BCL marks",
+        rta_above_bcl,
+    ),
+    between(
+        "every final bound and mark is its row's own answer",
+        not_consistent,
+    ),
+    between("a result sheet says what the engines say", result_apart),
     Relation {
-        name: "RTA is never above BCL and marks what BCL marks",
-        kinds: QUICK,
-        times: 1,
-        broken: rta_above_bcl,
-    },
-    Relation {
-        name: "every final bound and mark is its row's own answer",
-        kinds: QUICK,
-        times: 1,
-        broken: not_consistent,
-    },
-    Relation {
-        name: "a result sheet says what the engines say",
-        kinds: QUICK,
-        times: 1,
-        broken: result_apart,
-    },
-    Relation {
-        name: "the end is the largest of all consistent sets",
         kinds: &[Kind::Tiny],
-        times: 1,
-        broken: not_largest,
+        ..between("the end is the largest of all consistent sets", not_largest)
     },
+    between("the order of rows changes nothing", order_matters),
+    between("a processor more is never worse", processor_hurts),
+    between("a sheet written and read is the same", not_back),
+    between(
+        "the whole answer is reading and then the result sheet",
+        answer_apart,
+    ),
     Relation {
-        name: "the order of rows changes nothing",
-        kinds: QUICK,
-        times: 1,
-        broken: order_matters,
-    },
-    Relation {
-        name: "a processor more is never worse",
-        kinds: QUICK,
-        times: 1,
-        broken: processor_hurts,
-    },
-    Relation {
-        name: "a sheet written and read is the same",
-        kinds: QUICK,
-        times: 1,
-        broken: not_back,
-    },
-    Relation {
-        name: "the whole answer is reading and then the result sheet",
-        kinds: QUICK,
-        times: 1,
-        broken: answer_apart,
+        entries: &BY_COLUMNS,
+        kinds: OF_ALL_LENGTHS,
+        wrong: &[false, true],
+        ..between("columns and triples get the same answer", layouts_differ)
     },
 ];
 
@@ -328,6 +340,24 @@ fn answer_apart(trial: Trial, call: &Call, random: &mut Random) -> Option<String
         format!(
             "whole answer {:?}, result sheet {:?}",
             whole.numbers, result.numbers
+        )
+    })
+}
+
+/// The same rows in columns and in triples: the same numbers, and at each place of the output the same, or what was there.
+fn layouts_differ(trial: Trial, call: &Call, random: &mut Random) -> Option<String> {
+    let triples = trial.made(&in_triples(call)?, random);
+    let columns = trial.made(call, random);
+    let left_alone = |seen: &Seen, place: usize| seen.after[place] == seen.before[place];
+    let same_at = |place: usize| {
+        triples.after[place] == columns.after[place]
+            || left_alone(&triples, place) && left_alone(&columns, place)
+    };
+    let same = triples.numbers == columns.numbers && (0..triples.after.len()).all(same_at);
+    (!same).then(|| {
+        format!(
+            "triples {:?} {:?}, columns {:?} {:?}",
+            triples.numbers, triples.after, columns.numbers, columns.after
         )
     })
 }

@@ -2,6 +2,7 @@
 
 use crate::difference::Compared;
 use crate::groups::entry_name;
+use crate::lent::in_triples;
 use second::call::{Call, Entry};
 use sheets::{joined, rows_shown};
 
@@ -10,10 +11,36 @@ fn text_shown(text: &[u8]) -> String {
     format!("\"{}\"", text.escape_ascii())
 }
 
+/// The names of the columns.
+const COLUMNS: [&str; 3] = ["costs", "deadlines", "periods"];
+
+/// A list of words, or that there are none.
+fn list_shown(words: &[u32]) -> String {
+    match words.len() {
+        0 => "none".to_string(),
+        _ => joined(words),
+    }
+}
+
+/// The rows that a call is lent; columns that are not of one length list by list.
+fn lent_shown(call: &Call) -> String {
+    if !call.entry.takes_columns() {
+        return format!("rows {}", rows_shown(&call.words));
+    }
+    if let Some(triples) = in_triples(call) {
+        return format!("rows {}", rows_shown(&triples.words));
+    }
+    let lists = COLUMNS.iter().zip(&call.columns);
+    let shown: Vec<String> = lists
+        .map(|(name, words)| format!("{name} {}", list_shown(words)))
+        .collect();
+    shown.join("; ")
+}
+
 /// What an entry is given, in one line.
 pub fn call_shown(call: &Call) -> String {
-    let rows = format!("rows {}", rows_shown(&call.words));
-    let given = match call.entry {
+    let rows = lent_shown(call);
+    let given = match call.entry.question() {
         Entry::OneRow => format!(
             "{rows}, processors {}, method {}, bounds {}, row {}",
             call.processors,
@@ -21,31 +48,30 @@ pub fn call_shown(call: &Call) -> String {
             joined(&call.bounds),
             call.row
         ),
-        Entry::RefineRounds | Entry::RefineAtOnce | Entry::WriteResult => {
-            format!(
-                "{rows}, processors {}, method {}, room {}",
-                call.processors, call.method, call.room
-            )
-        }
         Entry::OneProcessor => format!("{rows}, horizon {}", call.horizon),
         Entry::WriteSheet => format!("{rows}, processors {}, room {}", call.processors, call.room),
         Entry::ReadSheet | Entry::AnswerSheet => {
             format!("text {}, room {}", text_shown(&call.text), call.room)
         }
+        _ => format!(
+            "{rows}, processors {}, method {}, room {}",
+            call.processors, call.method, call.room
+        ),
     };
     let behind = behind_shown(call);
     format!("{}: {given}{behind}", entry_name(call.entry))
 }
 
-/// What is lent behind the words, the bounds and the text, where something is.
+/// What is lent behind the words, the columns, the bounds and the text, where something is.
 fn behind_shown(call: &Call) -> String {
-    let lent = [
+    let lists = [
         (call.behind.words, "words"),
         (call.behind.bounds, "bounds"),
         (call.behind.text, "bytes"),
     ];
-    let shown = lent.iter().filter(|(count, _)| *count > 0);
-    shown
+    let columns = call.behind.columns.into_iter().zip(COLUMNS);
+    let lent = lists.into_iter().chain(columns);
+    lent.filter(|(count, _)| *count > 0)
         .map(|(count, what)| format!(", {count} {what} of 0 behind"))
         .collect()
 }

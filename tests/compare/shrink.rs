@@ -1,5 +1,6 @@
 //! Shrinking: of a call that shows a difference, the smallest that still does and can be reached by making it smaller step by step.
 
+use crate::lent::{keep_rows, remove_row, row_at, row_count, set_row};
 use second::call::{Call, Entry};
 use second::program::DOCUMENT;
 use second::reader::read;
@@ -25,7 +26,7 @@ pub fn shrunk(call: &Call, time: Duration, differs: impl Fn(&Call) -> bool) -> C
 fn smaller(call: &Call) -> Vec<Call> {
     let mut calls = match call.entry {
         Entry::ReadSheet | Entry::AnswerSheet => smaller_text(call),
-        _ => [fewer_rows(call), smaller_words(call)].concat(),
+        _ => [fewer_rows(call), shorter_columns(call), smaller_words(call)].concat(),
     };
     calls.extend(smaller_parameters(call));
     calls.retain(|tried| tried != call);
@@ -42,7 +43,7 @@ fn lower(number: u32) -> Vec<u32> {
 /// The call without the row at a place and its bound.
 fn without_row(call: &Call, place: usize) -> Call {
     let mut fewer = call.clone();
-    fewer.words.drain(3 * place..3 * place + 3);
+    remove_row(&mut fewer, place);
     if place < fewer.bounds.len() {
         fewer.bounds.remove(place);
     }
@@ -52,14 +53,11 @@ fn without_row(call: &Call, place: usize) -> Call {
 
 /// The call with half of its rows, with one row less, or with one row and one processor less.
 fn fewer_rows(call: &Call) -> Vec<Call> {
-    let rows = call.words.len() / 3;
-    let half = rows / 2;
-    let bounds = call.bounds.iter().take(half).copied().collect();
-    let mut calls = vec![Call {
-        words: call.words[..3 * half].to_vec(),
-        bounds,
-        ..call.clone()
-    }];
+    let rows = row_count(call);
+    let mut half = call.clone();
+    keep_rows(&mut half, rows / 2);
+    half.bounds.truncate(rows / 2);
+    let mut calls = vec![half];
     for place in 0..rows {
         let fewer = without_row(call, place);
         let processors = call.processors.saturating_sub(1);
@@ -68,6 +66,19 @@ fn fewer_rows(call: &Call) -> Vec<Call> {
             ..fewer.clone()
         });
         calls.push(fewer);
+    }
+    calls
+}
+
+/// The call with one of its columns shorter: by half, or by one word.
+fn shorter_columns(call: &Call) -> Vec<Call> {
+    let mut calls = Vec::new();
+    for (list, column) in call.columns.iter().enumerate() {
+        for length in [column.len() / 2, column.len().saturating_sub(1)] {
+            let mut tried = call.clone();
+            tried.columns[list].truncate(length);
+            calls.push(tried);
+        }
     }
     calls
 }
@@ -103,7 +114,7 @@ fn smaller_rows(row: [u32; 3]) -> Vec<[u32; 3]> {
 /// The call with another row at a place, and its bound brought within it.
 fn with_row(call: &Call, place: usize, row: [u32; 3]) -> Call {
     let mut tried = call.clone();
-    tried.words[3 * place..3 * place + 3].copy_from_slice(&row);
+    set_row(&mut tried, place, row);
     if let Some(bound) = tried.bounds.get_mut(place) {
         *bound = (*bound).min(row[1]).max(row[0]);
     }
@@ -112,14 +123,16 @@ fn with_row(call: &Call, place: usize, row: [u32; 3]) -> Call {
 
 /// The call with all rows halved, with one row smaller, or with one bound lower.
 fn smaller_words(call: &Call) -> Vec<Call> {
+    let half = |list: &[u32]| -> Vec<u32> { list.iter().map(|word| word.div_ceil(2)).collect() };
     let halved = Call {
-        words: call.words.iter().map(|word| word.div_ceil(2)).collect(),
-        bounds: call.bounds.iter().map(|bound| bound.div_ceil(2)).collect(),
+        words: half(&call.words),
+        columns: [0, 1, 2].map(|list| half(&call.columns[list])),
+        bounds: half(&call.bounds),
         ..call.clone()
     };
     let mut calls = vec![halved];
-    for (place, row) in call.words.chunks_exact(3).enumerate() {
-        let rows = smaller_rows([row[0], row[1], row[2]]);
+    for place in 0..row_count(call) {
+        let rows = smaller_rows(row_at(call, place));
         calls.extend(rows.into_iter().map(|row| with_row(call, place, row)));
     }
     for place in 0..call.bounds.len() {

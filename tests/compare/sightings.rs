@@ -1,6 +1,7 @@
 //! What the calls met, so that a run can tell that it met everything there is to meet.
 
 use crate::groups::{entry_name, ENTRIES};
+use crate::lent::row_count;
 use guarded::Seen;
 use second::call::{Call, Entry};
 use second::checks::applying;
@@ -40,12 +41,12 @@ pub fn never_met() -> Vec<String> {
 
 /// The kinds of answer that an entry has: what it says where it does not refuse, and each refusal.
 fn kinds_of_answer(entry: Entry) -> Vec<String> {
-    let said: &[&str] = match entry {
+    let said: &[&str] = match entry.question() {
         Entry::OneRow => &["bound", "none"],
-        Entry::RefineRounds | Entry::RefineAtOnce => &["all marked", "some marked", "none marked"],
         Entry::OneProcessor => &["undecided", "miss", "fits"],
         Entry::WriteResult | Entry::AnswerSheet => &["accepted", "not accepted"],
         Entry::ReadSheet | Entry::WriteSheet => &["done"],
+        _ => &["all marked", "some marked", "none marked"],
     };
     let form: &[u32] = if matches!(entry, Entry::ReadSheet | Entry::AnswerSheet) {
         &[1]
@@ -73,21 +74,19 @@ fn kind_of_answer(call: &Call, seen: &Seen) -> String {
     if seen.numbers[0] != 0 {
         return format!("refusal {}", seen.numbers[0]);
     }
-    let rows = call.words.len() as u32 / 3;
+    let rows = row_count(call) as u32;
     let all = u64::MAX.checked_shr(64 - rows.min(64)).unwrap_or(0);
-    match (call.entry, seen.numbers[2]) {
+    match (call.entry.question(), seen.numbers[2]) {
         (Entry::OneRow, 0) => "none".to_string(),
         (Entry::OneRow, _) => "bound".to_string(),
         (Entry::OneProcessor, outcome) => {
             ["undecided", "miss", "fits"][outcome as usize % 3].to_string()
         }
-        (Entry::RefineRounds | Entry::RefineAtOnce, 0) => "none marked".to_string(),
-        (Entry::RefineRounds | Entry::RefineAtOnce, marks) if marks == all => {
-            "all marked".to_string()
-        }
-        (Entry::RefineRounds | Entry::RefineAtOnce, _) => "some marked".to_string(),
         (Entry::WriteResult | Entry::AnswerSheet, _) => kind_of_text(&seen.after),
         (Entry::ReadSheet | Entry::WriteSheet, _) => "done".to_string(),
+        (_, 0) => "none marked".to_string(),
+        (_, marks) if marks == all => "all marked".to_string(),
+        _ => "some marked".to_string(),
     }
 }
 

@@ -1,6 +1,8 @@
 //! Calls with something wrong in them: every parameter in turn, and at times two at once, so that the order of checks shows.
 
 use crate::damage::damage;
+use crate::lengths::{drawn, lengthened};
+use crate::lent::{row_at, row_count, set_row};
 use crate::widen::{widened, widened_word, with_more_behind};
 use second::call::{Call, Entry};
 use second::program::DOCUMENT;
@@ -13,6 +15,21 @@ type Spoil = fn(&mut Call, &mut Random);
 /// The ways to spoil a call of an entry that is given words.
 const IN_WORDS: [Spoil; 10] = [
     words,
+    rows,
+    processors,
+    method,
+    horizon,
+    room,
+    row_number,
+    bounds,
+    widened,
+    with_more_behind,
+];
+
+/// The ways to spoil a call of an entry that is given columns.
+const IN_COLUMNS: [Spoil; 11] = [
+    columns,
+    columns,
     rows,
     processors,
     method,
@@ -39,6 +56,7 @@ const IN_TEXT: [Spoil; 7] = [
 pub fn spoiled(mut call: Call, random: &mut Random) -> Call {
     let ways: &[Spoil] = match call.entry {
         Entry::ReadSheet | Entry::AnswerSheet => &IN_TEXT,
+        entry if entry.takes_columns() => &IN_COLUMNS,
         _ => &IN_WORDS,
     };
     for _ in 0..random.one_of(&[1, 1, 2, 3]) {
@@ -63,35 +81,32 @@ fn words(call: &mut Call, random: &mut Random) {
         call.words.len() + 256,
         call.words.len() + 256 * 3,
     ]);
-    let filling = call.words.clone();
-    let word_at = |place: usize| {
-        filling
-            .get(place % filling.len().max(1))
-            .copied()
-            .unwrap_or(1)
-    };
-    call.words = (0..length).map(word_at).collect();
+    call.words = lengthened(&call.words, length);
 }
 
-/// A row's place: any, the last, or one from place 48 on where there are as many.
+/// Columns that are not all of one length, none, or too many.
+fn columns(call: &mut Call, random: &mut Random) {
+    let lengths = drawn(row_count(call), random);
+    for (column, length) in call.columns.iter_mut().zip(lengths) {
+        *column = lengthened(column, length);
+    }
+}
+
+/// A row's place: any, the last, which comes every other time, or one from place 48 on where there are as many.
 pub fn any_place(count: usize, random: &mut Random) -> usize {
     let from_there = count.min(48) % count;
     let late = from_there + random.below(count - from_there);
     let any = random.below(count);
-    random.one_of(&[any, any, late, count - 1])
+    random.one_of(&[any, late, count - 1, count - 1])
 }
 
 /// One number of one row outside the sizes allowed, or just inside.
 fn rows(call: &mut Call, random: &mut Random) {
-    if call.words.len() < 3 {
+    if row_count(call) == 0 {
         return;
     }
-    let first = any_place(call.words.len() / 3, random) * 3;
-    let (cost, deadline, period) = (
-        call.words[first],
-        call.words[first + 1],
-        call.words[first + 2],
-    );
+    let place = any_place(row_count(call), random);
+    let [cost, deadline, period] = row_at(call, place);
     let wrong = random.one_of(&[
         [0, deadline, period],
         [deadline.wrapping_add(1), deadline, period],
@@ -107,7 +122,7 @@ fn rows(call: &mut Call, random: &mut Random) {
         [1 << 31, 1 << 31, 1 << 31],
         [period, deadline, cost],
     ]);
-    call.words[first..first + 3].copy_from_slice(&wrong);
+    set_row(call, place, wrong);
 }
 
 /// A processor count at or past its limits.
@@ -154,7 +169,7 @@ fn room(call: &mut Call, random: &mut Random) {
 
 /// A row number that is none.
 fn row_number(call: &mut Call, random: &mut Random) {
-    let count = call.words.len() as u32 / 3;
+    let count = row_count(call) as u32;
     call.row = random.one_of(&[
         count,
         count.saturating_sub(1),
@@ -182,7 +197,7 @@ fn bounds(call: &mut Call, random: &mut Random) {
 
 /// One bound just outside its row's cost to deadline, or far; at times that of the row under question.
 fn one_bound(call: &mut Call, random: &mut Random) {
-    let rows = call.bounds.len().min(call.words.len() / 3);
+    let rows = call.bounds.len().min(row_count(call));
     if rows == 0 {
         return;
     }
@@ -191,7 +206,7 @@ fn one_bound(call: &mut Call, random: &mut Random) {
     } else {
         any_place(rows, random)
     };
-    let (cost, deadline) = (call.words[3 * place], call.words[3 * place + 1]);
+    let [cost, deadline, _] = row_at(call, place);
     call.bounds[place] = random.one_of(&[
         cost.wrapping_sub(1),
         deadline.wrapping_add(1),
@@ -209,7 +224,7 @@ fn damaged(call: &mut Call, random: &mut Random) {
 
 /// Rewrites the text with wrong numbers in the right form: rows as six digits hold them, processors as two do.
 fn numbers_in_text(call: &mut Call, random: &mut Random) {
-    if random.once_in(2) {
+    if random.once_in(4) {
         call.processors = random.one_of(&[0, 1, 64, 65, 255]);
     }
     if random.once_in(4) {

@@ -118,9 +118,11 @@ fn text_cases() -> Vec<Case> {
     ]
 }
 
-/// Every case.
+/// Every case, with its rows in triples and, where an entry takes them so, in columns.
 pub fn cases() -> Vec<Case> {
-    [row_cases(), processor_cases(), sheet_cases(), text_cases()].concat()
+    let triples = [row_cases(), processor_cases(), sheet_cases(), text_cases()].concat();
+    let columns: Vec<Case> = triples.iter().filter_map(Case::in_columns).collect();
+    [triples, columns].concat()
 }
 
 /// The cases that one of the programs answers otherwise.

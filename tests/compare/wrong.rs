@@ -13,6 +13,7 @@ macro_rules! kept_in {
 
 mod analysis;
 mod checks;
+mod columns;
 mod demand;
 mod given_up;
 mod late;
@@ -25,6 +26,7 @@ mod text;
 use crate::cases::Case;
 use crate::far;
 use crate::groups::EVERY_ENTRY;
+use crate::lent::BY_COLUMNS;
 use crate::relations::RELATIONS;
 pub use demand::clean_horizon;
 pub use given_up::{busy_climb, deadline_search, passes};
@@ -46,6 +48,8 @@ pub enum By {
     Relation(&'static str),
     /// Every text near a sheet's, by an entry that reads texts.
     NearTexts(Entry),
+    /// Columns of every combination of lengths, by an entry that is given columns.
+    Lengths(Entry),
     /// A fixed case.
     Case(Case),
 }
@@ -76,10 +80,10 @@ fn in_each(entries: &'static [Entry], slips: &[Slip]) -> Vec<Wrong> {
     alone.flat_map(|entry| in_answers(entry, slips)).collect()
 }
 
-/// The entries that refine rows lent as words.
+/// The entries that refine rows lent as triples.
 const REFINING: [Entry; 3] = [Entry::RefineRounds, Entry::RefineAtOnce, Entry::WriteResult];
 
-/// The entries that are given words.
+/// The entries that are given triples.
 const WITH_WORDS: [Entry; 6] = [
     Entry::OneRow,
     Entry::RefineRounds,
@@ -93,14 +97,36 @@ const WITH_WORDS: [Entry; 6] = [
 const WITH_TEXT: [Entry; 2] = [Entry::ReadSheet, Entry::AnswerSheet];
 
 /// The entries that write.
-const WITH_ROOM: [Entry; 6] = [
+const WITH_ROOM: [Entry; 9] = [
     Entry::RefineRounds,
     Entry::RefineAtOnce,
     Entry::ReadSheet,
     Entry::WriteSheet,
     Entry::WriteResult,
     Entry::AnswerSheet,
+    Entry::RefineRoundsColumns,
+    Entry::RefineAtOnceColumns,
+    Entry::WriteResultColumns,
 ];
+
+/// The entries that are given columns and write.
+const COLUMNS_WITH_ROOM: [Entry; 3] = [
+    Entry::RefineRoundsColumns,
+    Entry::RefineAtOnceColumns,
+    Entry::WriteResultColumns,
+];
+
+/// The entries that write a result sheet.
+const WITH_RESULT: [Entry; 3] = [
+    Entry::WriteResult,
+    Entry::AnswerSheet,
+    Entry::WriteResultColumns,
+];
+
+/// The slips in the lengths of columns.
+fn in_lengths() -> Vec<Slip> {
+    [columns::LENGTHS.to_vec(), taken::in_lengths()].concat()
+}
 
 /// The wrong programs whose slips answers must show, whichever entry gives them.
 fn shown_by_any() -> Vec<Wrong> {
@@ -124,15 +150,19 @@ fn shown_by_some() -> Vec<Wrong> {
         in_answers(&REFINING, &given_up::PASSES),
         in_answers(&[Entry::OneProcessor], &given_up::SEARCHES),
         in_each(&EVERY_ENTRY, &late::UNCHECKED),
-        in_each(&[Entry::WriteResult, Entry::AnswerSheet], &late::ACCEPTED),
+        in_each(&WITH_RESULT, &late::ACCEPTED),
         in_each(&WITH_WORDS, &taken::in_words()),
+        in_each(&BY_COLUMNS, &taken::in_columns()),
+        in_each(&BY_COLUMNS, &columns::ROWS),
+        in_each(&COLUMNS_WITH_ROOM, &columns::WRITING),
+        in_answers(&BY_COLUMNS, &in_lengths()),
         in_each(&WITH_TEXT, &taken::in_text()),
         in_each(&WITH_ROOM, &taken::in_room()),
     ];
     lists.into_iter().flatten().collect()
 }
 
-/// Every wrong program: of each relation, each entry that reads texts, and each fixed case at least one.
+/// Every wrong program: of each relation, each entry that reads texts or columns, and each fixed case at least one.
 pub fn wrong_programs() -> Vec<Wrong> {
     let relations = RELATIONS
         .iter()
@@ -140,11 +170,16 @@ pub fn wrong_programs() -> Vec<Wrong> {
     let texts = WITH_TEXT
         .into_iter()
         .flat_map(|entry| text::NEAR.map(|slip| with(slip, By::NearTexts(entry))));
+    let lengths = BY_COLUMNS.into_iter().flat_map(|entry| {
+        in_lengths()
+            .into_iter()
+            .map(move |slip| with(slip, By::Lengths(entry)))
+    });
     let far = far::cases().into_iter().flat_map(|far| {
         let shown = move |slip: Slip| with(slip, By::Case(far.case.clone()));
         far.slips.into_iter().map(shown)
     });
-    let others = relations.chain(texts).chain(far);
+    let others = relations.chain(texts).chain(lengths).chain(far);
     let answers = shown_by_any().into_iter().chain(shown_by_some());
     answers.chain(others).collect()
 }

@@ -3,7 +3,7 @@
 
 use crate::seen::{Seen, CALLS};
 use crate::wire::{receive_seen, send_call};
-use second::call::{Behind, Call, Entry};
+use second::call::{Call, Entry};
 use second::random::Random;
 use std::cell::RefCell;
 use std::io::{BufReader, Error, Result};
@@ -70,16 +70,11 @@ pub fn made(call: &Call, random: &mut Random) -> Seen {
 /// The whole sheet refined by the at-once engine: the marks; the bounds are written to the words lent.
 pub fn refine_at_once(words: &[u32], processors: u32, method: u32, bounds: &mut [u32]) -> u64 {
     let call = Call {
-        entry: Entry::RefineAtOnce,
         words: words.to_vec(),
         processors,
         method,
-        bounds: Vec::new(),
-        row: 0,
-        horizon: 0,
-        text: Vec::new(),
-        behind: Behind::default(),
         room: bounds.len(),
+        ..Call::of(Entry::RefineAtOnce)
     };
     let seen = made(&call, &mut Random::of([0]));
     for (bound, word) in bounds.iter_mut().zip(&seen.after) {

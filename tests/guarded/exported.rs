@@ -80,6 +80,64 @@ extern "C" {
         out: *mut u8,
         out_length: usize,
     ) -> Three;
+    pub fn circuitrail_one_row_columns(
+        costs: *const u32,
+        costs_length: usize,
+        deadlines: *const u32,
+        deadlines_length: usize,
+        periods: *const u32,
+        periods_length: usize,
+        processors: u32,
+        method: u32,
+        bounds: *const u32,
+        bounds_length: usize,
+        row: u32,
+    ) -> Three;
+    pub fn circuitrail_refine_rounds_columns(
+        costs: *const u32,
+        costs_length: usize,
+        deadlines: *const u32,
+        deadlines_length: usize,
+        periods: *const u32,
+        periods_length: usize,
+        processors: u32,
+        method: u32,
+        bounds: *mut u32,
+        bounds_length: usize,
+    ) -> Marks;
+    pub fn circuitrail_refine_at_once_columns(
+        costs: *const u32,
+        costs_length: usize,
+        deadlines: *const u32,
+        deadlines_length: usize,
+        periods: *const u32,
+        periods_length: usize,
+        processors: u32,
+        method: u32,
+        bounds: *mut u32,
+        bounds_length: usize,
+    ) -> Marks;
+    pub fn circuitrail_one_processor_columns(
+        costs: *const u32,
+        costs_length: usize,
+        deadlines: *const u32,
+        deadlines_length: usize,
+        periods: *const u32,
+        periods_length: usize,
+        horizon: u32,
+    ) -> Four;
+    pub fn circuitrail_write_result_columns(
+        costs: *const u32,
+        costs_length: usize,
+        deadlines: *const u32,
+        deadlines_length: usize,
+        periods: *const u32,
+        periods_length: usize,
+        processors: u32,
+        method: u32,
+        text: *mut u8,
+        text_length: usize,
+    ) -> Three;
 }
 
 impl From<Three> for Vec<u64> {

@@ -86,17 +86,14 @@ impl<T: Element> Lent<T> {
         Lent::new(&contents, room - held, random)
     }
 
-    /// Where the contents begin; no elements are lent by the null pointer every other time.
-    pub fn pointer(&mut self) -> *mut T {
-        if self.as_null {
-            return std::ptr::null_mut();
-        }
-        self.place.start().wrapping_add(GUARD)
-    }
-
-    /// How many elements are lent.
-    pub fn length(&self) -> usize {
-        self.contents + self.behind
+    /// Where the contents begin, and how many elements are lent; no elements are lent by the null pointer every other time.
+    pub fn pointer_and_length(&mut self) -> (*mut T, usize) {
+        let pointer = if self.as_null {
+            std::ptr::null_mut()
+        } else {
+            self.place.start().wrapping_add(GUARD)
+        };
+        (pointer, self.contents + self.behind)
     }
 
     /// The contents as they were.

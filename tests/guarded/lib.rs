@@ -4,6 +4,8 @@
 #[cfg(not(target_arch = "x86_64"))]
 mod beside;
 #[cfg(target_arch = "x86_64")]
+mod by_columns;
+#[cfg(target_arch = "x86_64")]
 mod exported;
 #[cfg(target_arch = "x86_64")]
 mod lent;

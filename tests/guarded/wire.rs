@@ -6,7 +6,7 @@ use second::random::Random;
 use std::io::{ErrorKind, Read, Result, Write};
 
 /// The entries, by whose places they are told.
-const ENTRIES: [Entry; 8] = [
+const ENTRIES: [Entry; 13] = [
     Entry::OneRow,
     Entry::RefineRounds,
     Entry::RefineAtOnce,
@@ -15,6 +15,11 @@ const ENTRIES: [Entry; 8] = [
     Entry::WriteSheet,
     Entry::WriteResult,
     Entry::AnswerSheet,
+    Entry::OneRowColumns,
+    Entry::RefineRoundsColumns,
+    Entry::RefineAtOnceColumns,
+    Entry::OneProcessorColumns,
+    Entry::WriteResultColumns,
 ];
 
 /// How many bytes a number has.
@@ -50,6 +55,31 @@ fn wide<T: Copy + Into<u64>>(elements: &[T]) -> Vec<u64> {
     elements.iter().map(|&element| element.into()).collect()
 }
 
+/// What is lent behind the lists of a call, as numbers.
+fn behind_sent(behind: &Behind) -> Vec<u64> {
+    let [costs, deadlines, periods] = behind.columns;
+    let lengths = [
+        behind.words,
+        costs,
+        deadlines,
+        periods,
+        behind.bounds,
+        behind.text,
+    ];
+    lengths.map(|length| length as u64).to_vec()
+}
+
+/// What is lent behind the lists of a call, from numbers.
+fn behind_received(numbers: &[u64]) -> Behind {
+    let length = |place: usize| numbers[place] as usize;
+    Behind {
+        words: length(0),
+        columns: [length(1), length(2), length(3)],
+        bounds: length(4),
+        text: length(5),
+    }
+}
+
 /// Sends a call, and the random generator that it is made with.
 pub fn send_call(to: &mut impl Write, call: &Call, random: &Random) -> Result<()> {
     let place = ENTRIES.iter().position(|entry| *entry == call.entry);
@@ -59,17 +89,19 @@ pub fn send_call(to: &mut impl Write, call: &Call, random: &Random) -> Result<()
         call.method.into(),
         call.row.into(),
         call.horizon.into(),
-        call.behind.words as u64,
-        call.behind.bounds as u64,
-        call.behind.text as u64,
         call.room as u64,
         random.state(),
     ];
+    let [costs, deadlines, periods] = &call.columns;
     send(
         to,
         &[
             numbers,
+            behind_sent(&call.behind),
             wide(&call.words),
+            wide(costs),
+            wide(deadlines),
+            wide(periods),
             wide(&call.bounds),
             wide(&call.text),
         ],
@@ -82,6 +114,7 @@ pub fn receive_call(from: &mut impl Read) -> Result<Option<(Call, Random)>> {
         Err(why) if why.kind() == ErrorKind::UnexpectedEof => return Ok(None),
         received => received?,
     };
+    let behind = behind_received(&receive(from)?);
     let words = |list: Vec<u64>| list.into_iter().map(|number| number as u32).collect();
     let call = Call {
         entry: ENTRIES[numbers[0] as usize],
@@ -89,17 +122,18 @@ pub fn receive_call(from: &mut impl Read) -> Result<Option<(Call, Random)>> {
         method: numbers[2] as u32,
         row: numbers[3] as u32,
         horizon: numbers[4] as u32,
-        behind: Behind {
-            words: numbers[5] as usize,
-            bounds: numbers[6] as usize,
-            text: numbers[7] as usize,
-        },
-        room: numbers[8] as usize,
+        room: numbers[5] as usize,
+        behind,
         words: words(receive(from)?),
+        columns: [
+            words(receive(from)?),
+            words(receive(from)?),
+            words(receive(from)?),
+        ],
         bounds: words(receive(from)?),
         text: receive(from)?.iter().map(|&number| number as u8).collect(),
     };
-    Ok(Some((call, Random::from_state(numbers[9]))))
+    Ok(Some((call, Random::from_state(numbers[6]))))
 }
 
 /// Sends what was seen of a call, and the random generator behind it.

@@ -1,7 +1,7 @@
 //! What every entry answers: refused, or worked out.
 
 use crate::call::{Answer, Behind, Call, Entry};
-use crate::checks::{refusal, rows_in, Refusal};
+use crate::checks::{refusal, rows_said, Refusal};
 use crate::one_processor::Verdict;
 use crate::one_row::one_row;
 use crate::program::Program;
@@ -11,7 +11,7 @@ use crate::writer::{result_text, sheet_text};
 
 /// How many numbers an entry returns.
 pub fn how_many_numbers(entry: Entry) -> usize {
-    match entry {
+    match entry.question() {
         Entry::OneProcessor | Entry::ReadSheet => 4,
         _ => 3,
     }
@@ -46,11 +46,10 @@ fn text(text: String) -> Answer {
     }
 }
 
-/// The sheet that a call's words and processors say.
+/// The sheet that a call's rows and processors say.
 fn sheet_of(program: &Program, call: &Call) -> Sheet {
-    let rows = rows_in(program, &call.words);
     Sheet {
-        rows,
+        rows: rows_said(program, call),
         processors: call.processors as u64,
     }
 }
@@ -73,9 +72,9 @@ pub fn answer(program: &Program, call: &Call) -> Answer {
     }
 }
 
-/// The answer to a call on lent words that is not refused.
+/// The answer to a call on lent rows that is not refused.
 fn worked_out(program: &Program, call: &Call) -> Answer {
-    match call.entry {
+    match call.entry.question() {
         Entry::OneRow => bound_of_row(program, call),
         Entry::OneProcessor => outcome(program, call),
         Entry::WriteSheet => text(sheet_text(program, call.processors, &call.words)),
@@ -119,7 +118,7 @@ fn result_sheet(program: &Program, call: &Call) -> String {
 
 /// The demand test: 0 undecided, 1 miss, 2 fits, and the length.
 fn outcome(program: &Program, call: &Call) -> Answer {
-    let rows = rows_in(program, &call.words);
+    let rows = rows_said(program, call);
     match (program.verdict)(program, &rows, call.horizon as u64) {
         Verdict::Undecided => numbers(&[0, 0]),
         Verdict::Miss(length) => numbers(&[1, length]),

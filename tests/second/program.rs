@@ -3,7 +3,7 @@
 //! Every function reaches the parts below through this record, so that a wrong program is the right one with one part
 //! exchanged.
 
-use crate::call::{Answer, Call, Entry};
+use crate::call::{Answer, Call, Columns, Entry};
 use crate::checks::Refusal;
 use crate::one_processor::Verdict;
 use crate::reader::Written;
@@ -18,6 +18,9 @@ type Method = fn(&Program, &Sheet, usize, &[u64]) -> Option<u64>;
 pub struct Program {
     pub taken: fn(&Call) -> Call,
     pub row_of: fn(&[u32]) -> Row,
+    pub columns_wrong: fn([usize; 3]) -> bool,
+    pub rows_in_lengths: fn([usize; 3]) -> usize,
+    pub row_in_columns: fn(&Columns, usize) -> Row,
     pub is_other: fn(&[Row], usize, usize) -> bool,
     pub share: fn(Row, u64, u64) -> u64,
     pub work: fn(Row, u64, u64) -> u64,
@@ -55,6 +58,9 @@ pub struct Program {
 pub const DOCUMENT: Program = Program {
     taken: answers::taken,
     row_of: rows::row_of,
+    columns_wrong: checks::columns_wrong,
+    rows_in_lengths: checks::rows_in_lengths,
+    row_in_columns: rows::row_in_columns,
     is_other: interference::is_other,
     share: interference::share,
     work: interference::work,

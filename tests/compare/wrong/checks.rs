@@ -67,7 +67,7 @@ fn rows_before_room(number: u32) -> u32 {
 }
 
 /// The ranks of 2 and 3 swapped.
-fn many_before_whole(number: u32) -> u32 {
+pub fn many_before_whole(number: u32) -> u32 {
     match number {
         2 => 3,
         3 => 2,
@@ -86,9 +86,9 @@ fn own_bound_free(rows: &[Row], bounds: &[u32], row: u32) -> bool {
 }
 
 /// A refusal that has cleared the first byte or word of the output.
-fn refused_and_written(entry: Entry, refusal: Refusal) -> Answer {
+pub fn refused_and_written(entry: Entry, refusal: Refusal) -> Answer {
     let cleared = refused(entry, refusal);
-    match entry {
+    match entry.question() {
         _ if refusal.number == 7 => cleared,
         Entry::RefineRounds | Entry::RefineAtOnce | Entry::ReadSheet => Answer {
             words: vec![0],

@@ -1,6 +1,7 @@
 //! Slips with rows at late places.
 
 use super::Slip;
+use crate::lent::{row_at, row_count};
 use second::call::Call;
 use second::checks;
 use second::program::Program;
@@ -83,9 +84,9 @@ fn bad_in_first<const COUNT: usize>(program: &Program, rows: &[Row]) -> Option<u
 /// The call with its bounds behind the first rows brought within their rows' cost to deadline.
 fn bounds_of_first<const COUNT: usize>(call: &Call) -> Call {
     let mut taken = call.clone();
-    let rows = call.words.chunks_exact(3);
-    for (bound, row) in taken.bounds.iter_mut().zip(rows).skip(COUNT) {
-        *bound = (*bound).min(row[1]).max(row[0]);
+    for place in COUNT..row_count(call).min(call.bounds.len()) {
+        let [cost, deadline, _] = row_at(call, place);
+        taken.bounds[place] = call.bounds[place].min(deadline).max(cost);
     }
     taken
 }

@@ -1,6 +1,7 @@
 //! A slip for each relation: a program with it contradicts itself there.
 
 use super::analysis::costs;
+use super::columns::taken_from;
 use super::given_up::passes;
 use super::late::accepted_by_first;
 use super::Slip;
@@ -17,7 +18,7 @@ pub fn slip(relation: &str) -> Slip {
 }
 
 /// The slips, by the relations that are to show them.
-const SLIPS: [(&str, Slip); 9] = [
+const SLIPS: [(&str, Slip); 10] = [
     (
         "both engines end at the same bounds and marks",
         ("refines in rounds by BCL", |program| {
@@ -72,6 +73,15 @@ const SLIPS: [(&str, Slip); 9] = [
         ("reads a processor more", |program| {
             program.read = processor_more
         }),
+    ),
+    (
+        "columns and triples get the same answer",
+        (
+            "takes the periods of columns for the deadlines too",
+            |program| {
+                program.row_in_columns = |columns, place| taken_from(columns, place, [0, 2, 2])
+            },
+        ),
     ),
 ];
 

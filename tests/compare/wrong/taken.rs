@@ -27,6 +27,30 @@ pub fn in_words() -> Vec<Slip> {
     lists.concat()
 }
 
+/// The slips that every entry with columns must show by itself.
+pub fn in_columns() -> Vec<Slip> {
+    let lists: [&[Slip]; 2] = [
+        &kept_in!("the columns' words", taken, column_words, [20, 31]),
+        &kept_in!("the columns' row count", taken, column_rows, [8, 16]),
+    ];
+    lists.concat()
+}
+
+/// The slips in the lengths of columns.
+pub fn in_lengths() -> Vec<Slip> {
+    let lists: [&[Slip]; 3] = [
+        &kept_in!("the costs' length", taken, costs_length, [8, 16, 32]),
+        &kept_in!(
+            "the deadlines' length",
+            taken,
+            deadlines_length,
+            [8, 16, 32]
+        ),
+        &kept_in!("the periods' length", taken, periods_length, [8, 16, 32]),
+    ];
+    lists.concat()
+}
+
 /// The slips that every entry with a text must show by itself.
 pub fn in_text() -> Vec<Slip> {
     let list: &[Slip] = &kept_in!("the text's length", taken, text_length, [16, 24, 32]);
@@ -113,7 +137,7 @@ fn method<const BITS: u32>(call: &Call) -> Call {
 fn row_count<const BITS: u32>(call: &Call) -> Call {
     let mut taken = call.clone();
     if call.word_count() % 3 == 0 {
-        let length = 3 * cut::<BITS>(call.row_count() as u64) as usize;
+        let length = 3 * cut::<BITS>(call.word_count() as u64 / 3) as usize;
         (taken.words, taken.behind.words) = shorter(&call.words, call.behind.words, length);
     }
     taken
@@ -124,6 +148,46 @@ fn words_length<const BITS: u32>(call: &Call) -> Call {
     let mut taken = call.clone();
     (taken.words, taken.behind.words) = cut_list::<_, BITS>(&call.words, call.behind.words);
     taken
+}
+
+/// The call with the words of its columns cut.
+fn column_words<const BITS: u32>(call: &Call) -> Call {
+    let mut taken = call.clone();
+    for word in taken.columns.iter_mut().flatten() {
+        *word = cut_word::<BITS>(*word);
+    }
+    taken
+}
+
+/// The call with the length of one of its columns cut.
+fn column_length<const BITS: u32>(mut taken: Call, list: usize) -> Call {
+    let (column, behind) = (&mut taken.columns[list], &mut taken.behind.columns[list]);
+    (*column, *behind) = cut_list::<_, BITS>(column, *behind);
+    taken
+}
+
+/// The call with the length of its costs cut.
+fn costs_length<const BITS: u32>(call: &Call) -> Call {
+    column_length::<BITS>(call.clone(), 0)
+}
+
+/// The call with the length of its deadlines cut.
+fn deadlines_length<const BITS: u32>(call: &Call) -> Call {
+    column_length::<BITS>(call.clone(), 1)
+}
+
+/// The call with the length of its periods cut.
+fn periods_length<const BITS: u32>(call: &Call) -> Call {
+    column_length::<BITS>(call.clone(), 2)
+}
+
+/// The call with the row count of its columns cut; columns that are not of one length stay as they are.
+fn column_rows<const BITS: u32>(call: &Call) -> Call {
+    let [costs, deadlines, periods] = call.column_lengths();
+    if costs != deadlines || deadlines != periods {
+        return call.clone();
+    }
+    (0..3).fold(call.clone(), column_length::<BITS>)
 }
 
 /// The call with the length of its bounds cut.
