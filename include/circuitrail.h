@@ -54,7 +54,7 @@ extern "C" {
 #define CIRCUITRAIL_VERSION "0.1.0"
 
 /* Every call takes fewer bytes of stack than this. Interrupt handlers that run on the same stack come on top. */
-#define CIRCUITRAIL_STACK_BYTES 4096
+#define CIRCUITRAIL_STACK_BYTES 5120
 
 /* Refusals, in the order in which they are checked. `place` is 0 unless stated. */
 enum {
