@@ -116,12 +116,12 @@ const EARLY_COLUMNS: Columns = [&[1, 2], &[2, 3], &[4, 4]];
 // Columns of lengths that are refused: their lengths in words, themselves, and the refusal's number.
 fn refused_columns() -> Vec<(String, Columns<'static>, u32)> {
     const WORDS: &[u32] = &[1; 66];
-    let [empty, two, three, long, longer] = [&WORDS[..0], &WORDS[..2], &WORDS[..3], &WORDS[..65], WORDS];
+    let [empty, one, two, three, long, longer] = [0, 1, 2, 3, 65, 66].map(|length| &WORDS[..length]);
     let unequal = [
         [empty, empty, empty], [empty, three, three], [three, empty, three], [three, three, empty],
         [three, empty, empty], [empty, three, empty], [empty, empty, three],
         [two, three, three], [three, two, three], [three, three, two], [three, two, two], [two, three, two], [two, two, three],
-        [two, three, long], [longer, long, long], [long, longer, long], [long, long, longer],
+        [two, one, three], [longer, long, long], [long, longer, long], [long, long, longer],
     ];
     let many = [[long, long, long], [longer, longer, longer]];
     let all = unequal.iter().map(|columns| (columns, 2)).chain(many.iter().map(|columns| (columns, 3)));
@@ -167,9 +167,10 @@ fn one_row(tally: &mut Tally) {
 }
 
 fn one_row_columns(tally: &mut Tally) {
-    let ask = |[c, d, t]: Columns, bounds: &[u32], row: u32| unsafe {
+    let ask = |[costs, deadlines, periods]: Columns, bounds: &[u32], row: u32| unsafe {
         circuitrail_one_row_columns(
-            c.as_ptr(), c.len(), d.as_ptr(), d.len(), t.as_ptr(), t.len(), 2, RTA, bounds.as_ptr(), bounds.len(), row,
+            costs.as_ptr(), costs.len(), deadlines.as_ptr(), deadlines.len(), periods.as_ptr(), periods.len(),
+            2, RTA, bounds.as_ptr(), bounds.len(), row,
         )
     };
     let is = |refusal, place, bound| Row { refusal, place, bound };
@@ -204,8 +205,11 @@ fn refine(tally: &mut Tally, name: &str, engine: Engine) {
 }
 
 fn refine_columns(tally: &mut Tally, name: &str, engine: ColumnEngine) {
-    let ask = |[c, d, t]: Columns, bounds: &mut [u32]| unsafe {
-        engine(c.as_ptr(), c.len(), d.as_ptr(), d.len(), t.as_ptr(), t.len(), 2, RTA, bounds.as_mut_ptr(), bounds.len())
+    let ask = |[costs, deadlines, periods]: Columns, bounds: &mut [u32]| unsafe {
+        engine(
+            costs.as_ptr(), costs.len(), deadlines.as_ptr(), deadlines.len(), periods.as_ptr(), periods.len(),
+            2, RTA, bounds.as_mut_ptr(), bounds.len(),
+        )
     };
     let is = |refusal, place, marks| Refined { refusal, place, marks };
     let mut bounds = [9u32; 4];
@@ -235,9 +239,9 @@ fn refine_most_rows(tally: &mut Tally, name: &str, engine: Engine) {
 
 fn refine_most_columns(tally: &mut Tally, name: &str, engine: ColumnEngine) {
     let (costs, deadlines) = ([1u32; 64], [1_000_000u32; 64]);
-    let (c, d) = (costs.as_ptr(), deadlines.as_ptr());
     let mut bounds = [0u32; 64];
-    let got = unsafe { engine(c, 64, d, 64, d, 64, 64, RTA, bounds.as_mut_ptr(), bounds.len()) };
+    let (cost, deadline) = (costs.as_ptr(), deadlines.as_ptr());
+    let got = unsafe { engine(cost, 64, deadline, 64, deadline, 64, 64, RTA, bounds.as_mut_ptr(), bounds.len()) };
     tally.same(&format!("{name}, 64 rows"), got, Refined { refusal: 0, place: 0, marks: u64::MAX });
     tally.same(&format!("{name}, 64 rows, bounds"), bounds, [1; 64]);
 }
@@ -255,8 +259,10 @@ fn one_processor(tally: &mut Tally) {
 }
 
 fn one_processor_columns(tally: &mut Tally) {
-    let ask = |[c, d, t]: Columns, horizon: u32| unsafe {
-        circuitrail_one_processor_columns(c.as_ptr(), c.len(), d.as_ptr(), d.len(), t.as_ptr(), t.len(), horizon)
+    let ask = |[costs, deadlines, periods]: Columns, horizon: u32| unsafe {
+        circuitrail_one_processor_columns(
+            costs.as_ptr(), costs.len(), deadlines.as_ptr(), deadlines.len(), periods.as_ptr(), periods.len(), horizon,
+        )
     };
     let is = |refusal, place, outcome, length| Outcome { refusal, place, outcome, length };
     tally.same("one processor of columns, S", ask(S_COLUMNS, 16_777_216), is(0, 0, 1, 6));
@@ -334,9 +340,10 @@ fn write_result(tally: &mut Tally) {
 }
 
 fn write_result_columns(tally: &mut Tally) {
-    let ask = |[c, d, t]: Columns, method: u32, out: &mut [u8]| unsafe {
+    let ask = |[costs, deadlines, periods]: Columns, method: u32, out: &mut [u8]| unsafe {
         circuitrail_write_result_columns(
-            c.as_ptr(), c.len(), d.as_ptr(), d.len(), t.as_ptr(), t.len(), 2, method, out.as_mut_ptr(), out.len(),
+            costs.as_ptr(), costs.len(), deadlines.as_ptr(), deadlines.len(), periods.as_ptr(), periods.len(),
+            2, method, out.as_mut_ptr(), out.len(),
         )
     };
     let is = |refusal, place, length| Written { refusal, place, length };

@@ -9,7 +9,8 @@ use crate::cases::{one_processor, one_row, refined, Case};
 use crate::threads::of_each;
 use crate::wrong::{
     begun_quotient, busy_climb, busy_sum, clean_horizon, deadline_search, demand_product,
-    demand_quotient, demand_sum, passes, quick_rta_sum, rta_part, rta_sum, work_quotient, Slip,
+    demand_quotient, demand_sum, passes, quick_rta_sum, rta_part, rta_sum, work_quotient,
+    work_reach, Slip,
 };
 use second::call::Entry;
 use second::program::DOCUMENT;
@@ -222,6 +223,16 @@ fn sums() -> Vec<Far> {
     ]
 }
 
+/// A row that meets another in a window that passes 2^20 with the other's bound.
+fn windows() -> Vec<Far> {
+    let rows = [100_000, MOST, MOST].repeat(2);
+    let met = one_row("a window past 2^20", &rows, 1, 1, &[MOST; 2], 0, 200_000);
+    let slip: Slip = ("keeps the window of W in 20 bits", |program| {
+        program.work = work_reach::<20>
+    });
+    vec![asked_of_both(met, &[slip])]
+}
+
 /// 63 middling rows and a small one by an engine: large sums.
 fn crowd_by(engine: Entry) -> Far {
     let crowd = twins_and_one(63, [600_000, MOST, MOST], [1, MOST, MOST]);
@@ -292,6 +303,7 @@ pub fn cases() -> Vec<Far> {
         misses(),
         busy_lengths(),
         sums(),
+        windows(),
         by_engine(Entry::RefineRounds),
         by_engine(Entry::RefineAtOnce),
     ]

@@ -93,6 +93,7 @@ pub const RELATIONS: [Relation; 10] = [
     between("a result sheet says what the engines say", result_apart),
     Relation {
         kinds: &[Kind::Tiny],
+        times: 4,
         ..between("the end is the largest of all consistent sets", not_largest)
     },
     between("the order of rows changes nothing", order_matters),

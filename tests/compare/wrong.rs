@@ -32,7 +32,7 @@ pub use demand::clean_horizon;
 pub use given_up::{busy_climb, deadline_search, passes};
 pub use narrow::{
     begun_quotient, busy_sum, demand_product, demand_quotient, demand_sum, quick_rta_sum, rta_part,
-    rta_sum, work_quotient,
+    rta_sum, work_quotient, work_reach,
 };
 use second::call::Entry;
 use second::program::{Program, DOCUMENT};

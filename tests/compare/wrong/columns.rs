@@ -35,29 +35,30 @@ pub const LENGTHS: [Slip; 17] = [
     ("compares costs with periods only", |program| {
         program.columns_wrong = |[costs, _, periods]| costs == 0 || costs != periods
     }),
-    ("takes a list of costs that is longer", |program| {
-        program.columns_wrong = |[c, d, t]| columns_wrong([c.min(d), d, t])
+    ("takes costs that are longer", |program| {
+        program.columns_wrong = longer_taken::<0>
     }),
-    ("takes a list of deadlines that is longer", |program| {
-        program.columns_wrong = |[c, d, t]| columns_wrong([c, d.min(t), t])
+    ("takes deadlines that are longer", |program| {
+        program.columns_wrong = longer_taken::<1>
     }),
-    ("takes a list of periods that is longer", |program| {
-        program.columns_wrong = |[c, d, t]| columns_wrong([c, d, t.min(c)])
+    ("takes periods that are longer", |program| {
+        program.columns_wrong = longer_taken::<2>
     }),
-    ("takes a list of costs that is shorter", |program| {
-        program.columns_wrong = |[c, d, t]| columns_wrong([c.max(d), d, t])
+    ("takes costs that are shorter", |program| {
+        program.columns_wrong = shorter_taken::<0>
     }),
-    ("takes a list of deadlines that is shorter", |program| {
-        program.columns_wrong = |[c, d, t]| columns_wrong([c, d.max(t), t])
+    ("takes deadlines that are shorter", |program| {
+        program.columns_wrong = shorter_taken::<1>
     }),
-    ("takes a list of periods that is shorter", |program| {
-        program.columns_wrong = |[c, d, t]| columns_wrong([c, d, t.max(c)])
+    ("takes periods that are shorter", |program| {
+        program.columns_wrong = shorter_taken::<2>
     }),
     ("holds all words against three times the costs", |program| {
-        program.columns_wrong = |[c, d, t]| c == 0 || c + d + t != 3 * c
+        program.columns_wrong =
+            |lengths| lengths[0] == 0 || lengths.iter().sum::<usize>() != 3 * lengths[0]
     }),
     ("takes three lists without a word", |program| {
-        program.columns_wrong = |[c, d, t]| c != d || d != t
+        program.columns_wrong = |lengths| lengths != [lengths[0]; 3]
     }),
     ("takes as many rows as the longest column has", by_longest),
     ("takes as many rows as the shortest column has", |program| {
@@ -91,6 +92,18 @@ pub const WRITING: [Slip; 1] = [("writes before it refuses columns that differ",
         _ => refused(entry, refusal),
     }
 })];
+
+/// Whether lists of these lengths are no columns, with one that is longer than the next taken for as long.
+fn longer_taken<const LIST: usize>(mut lengths: [usize; 3]) -> bool {
+    lengths[LIST] = lengths[LIST].min(lengths[(LIST + 1) % 3]);
+    columns_wrong(lengths)
+}
+
+/// Whether lists of these lengths are no columns, with one that is shorter than the next taken for as long.
+fn shorter_taken<const LIST: usize>(mut lengths: [usize; 3]) -> bool {
+    lengths[LIST] = lengths[LIST].max(lengths[(LIST + 1) % 3]);
+    columns_wrong(lengths)
+}
 
 /// The word at a place of a list, 0 behind its end.
 fn word(list: &[u32], place: usize) -> u32 {

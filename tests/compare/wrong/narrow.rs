@@ -17,7 +17,7 @@ pub fn in_one_row() -> Vec<Slip> {
         &kept_in!("the whole jobs of I", share, share_product, [12, 16, 18]),
         &kept_in!("the periods of W", work, work_quotient, [12, 16]),
         &kept_in!("the whole jobs of W", work, work_product, [12, 16, 18]),
-        &kept_in!("the window of W", work, work_reach, [12, 16, 18, 20]),
+        &kept_in!("the window of W", work, work_reach, [12, 16, 18]),
         &kept_in!("RTA's bound", rta, rta_bound, [12, 16, 18]),
     ];
     lists.concat()
@@ -155,7 +155,7 @@ fn work_product<const BITS: u32>(other: Row, bound: u64, length: u64) -> u64 {
 }
 
 /// W with its window cut.
-fn work_reach<const BITS: u32>(other: Row, bound: u64, length: u64) -> u64 {
+pub fn work_reach<const BITS: u32>(other: Row, bound: u64, length: u64) -> u64 {
     let reach = cut::<BITS>(length + bound - other.cost);
     reach / other.period * other.cost + other.cost.min(reach % other.period)
 }
