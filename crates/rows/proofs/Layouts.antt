@@ -87,6 +87,15 @@ module _ (s : Sheet) where
   pub layouts-same : SameRows (asTriples s) (asColumns s)
   layouts-same = same-then _ laid-out _ (same-back laid-out _ in-triples-same) in-columns-same
 
+-- Whole triples have columns that are the same rows, and even columns have triples.
+pub as-columns : (words : List ℕ) → notWhole words ≡ false → SameRows (inTriples words) (asColumns (sheetOf words))
+as-columns words whole = let same = in-columns-same (sheetOf words) in record { layout = whole ∙ same .layout; alike = same .alike }
+
+pub as-triples : (costs deadlines periods : List ℕ) → uneven costs deadlines periods ≡ false
+    → SameRows (inColumns costs deadlines periods) (asTriples (columns costs deadlines periods))
+as-triples costs deadlines periods even =
+    let same = in-triples-same (columns costs deadlines periods) in record { layout = even ∙ same .layout; alike = same .alike }
+
 -- Rows taken apart into columns: each column has a word for each of them.
 pub fronts-there : (s : Sheet) (n : ℕ) (costs deadlines periods : List ℕ) → n ≡ s .rows → Apart s costs deadlines periods
     → Fronts n costs deadlines periods
@@ -105,6 +114,4 @@ pub taken-apart : (words : List ℕ) (n : ℕ) (costs deadlines periods : List �
     → Apart (sheetOf words) costs deadlines periods → SameRows (inTriples words) (inColumns (take n costs) (take n deadlines) (take n periods))
 unfolding asColumns
 taken-apart words n costs deadlines periods passed counted apart =
-    let same = in-columns-same (sheetOf words) in
-    rw (counted, apart .costs-front, apart .deadlines-front, apart .periods-front)
-    record { layout = shape-passed (inTriples words) passed .0 ∙ same .layout; alike = same .alike }
+    rw (counted, apart .costs-front, apart .deadlines-front, apart .periods-front) (as-columns words (shape-passed (inTriples words) passed .0))
