@@ -51,7 +51,7 @@ extern "C" {
 #endif
 
 /* The version of this header and of the archive that is made beside it. */
-#define CIRCUITRAIL_VERSION "0.1.0"
+#define CIRCUITRAIL_VERSION "0.2.0"
 
 /* Every call takes fewer bytes of stack than this. Interrupt handlers that run on the same stack come on top. */
 #define CIRCUITRAIL_STACK_BYTES 5120
