@@ -90,6 +90,13 @@ enum {
     CIRCUITRAIL_FITS = 2
 };
 
+/* Answers of the density test. */
+enum {
+    CIRCUITRAIL_DENSITY_UNSURE = 0,
+    CIRCUITRAIL_DENSITY_YES = 1,
+    CIRCUITRAIL_DENSITY_NO = 2
+};
+
 /* The answer to the one-row question. */
 typedef struct {
     uint32_t refusal;
@@ -189,6 +196,34 @@ circuitrail_outcome circuitrail_one_processor(const uint32_t *words, size_t word
 circuitrail_outcome circuitrail_one_processor_columns(const uint32_t *costs, size_t costs_length, const uint32_t *deadlines,
                                                       size_t deadlines_length, const uint32_t *periods, size_t periods_length,
                                                       uint32_t horizon);
+
+/* The answer of the density test. */
+typedef struct {
+    uint32_t refusal;
+    uint32_t place;
+    uint32_t answer; /* CIRCUITRAIL_DENSITY_UNSURE, CIRCUITRAIL_DENSITY_YES or CIRCUITRAIL_DENSITY_NO */
+} circuitrail_density_answer;
+
+/*
+ * A quick look by densities, the published test GFB: whether the sum of C / D over all rows and `processors` - 1 times the largest C / D are
+ * together at most `processors`. It divides once a row and gives no bounds. circuitrail_refine_at_once by RTA is the judge.
+ *
+ * Yes: they are, and the published test then shows that every job meets its deadline under global EDF, on what the other answers rest on.
+ * No: they are not. This test then shows nothing; RTA may accept the rows all the same. Unsure: densities are rounded to billionths, and
+ * with n rows fewer than n + `processors` - 1 billionths lie between the two sides, on whichever side.
+ *
+ * Checks: 2, 3, 4, 8.
+ */
+circuitrail_density_answer circuitrail_density(const uint32_t *words, size_t words_length, uint32_t processors);
+
+/*
+ * The same with rows lent as columns.
+ *
+ * Checks: those of circuitrail_density, 2 and 3 as in circuitrail_one_row_columns.
+ */
+circuitrail_density_answer circuitrail_density_columns(const uint32_t *costs, size_t costs_length, const uint32_t *deadlines,
+                                                       size_t deadlines_length, const uint32_t *periods, size_t periods_length,
+                                                       uint32_t processors);
 
 /* What reading a task sheet returns. */
 typedef struct {
