@@ -1,6 +1,7 @@
 pub mod Order
 pub mod Choice
 pub mod Sum
+pub mod Greatest
 pub mod Concave
 pub mod Search
 pub mod Climb

@@ -1,9 +1,9 @@
 -- Laws of sums over places, by induction on the number of places.
-use mathlib.Core.Path.{_≡_, refl, ap₂}
+use mathlib.Core.Path.{_≡_, refl, sym, ap₂}
 use mathlib.Core.Bool.{Bool, true, false}
 use mathlib.Core.Logic.{⊎-elim}
 use Prim.Native.Nat.{ℕ, zero, suc, _+_, _*_, _≤_, _<_}
-use native.Mathlib.Nat.{add-le-add, eq-or-lt-of-le, le-of-suc-le-suc, le-step, le-refl, lt-suc-self, add-lt-add-of-lt-of-le, add-lt-add-of-le-of-lt, not-le-of-lt, le-antisymm, suc-mul}
+use native.Mathlib.Nat.{add-le-add, eq-or-lt-of-le, le-of-suc-le-suc, le-step, le-refl, lt-suc-self, add-lt-add-of-lt-of-le, add-lt-add-of-le-of-lt, not-le-of-lt, le-antisymm, zero-mul, suc-mul, add-mul}
 use native.Mathlib.Numerals.{add-one}
 use native.Mathlib.Omega.{arith}
 use borrow.Author.Tests.{eq-eqb, ne-eqb}
@@ -76,6 +76,25 @@ unfolding total
 total-within f limit zero each = omega arith
 total-within f limit (suc n) each =
     omega (arith, total-within f limit n (λ i h. each i (le-step h)), each n (lt-suc-self n), suc-mul n limit)
+
+-- Terms all multiplied: so is the sum.
+pub total-scaled : (f : ℕ → ℕ) (p n : ℕ) → total (λ i. f i * p) n ≡ total f n * p
+unfolding total
+total-scaled f p zero = sym (zero-mul p)
+total-scaled f p (suc n) = omega (arith, total-scaled f p n, add-mul (total f n) (f n) p)
+
+-- Where there is a place, terms that are each less than so much above others have a sum that is less than that many times as much above.
+pub total-near : (f g : ℕ → ℕ) (more n : ℕ) → 1 ≤ n → ((i : ℕ) → i < n → f i < g i + more) → total f n < total g n + n * more
+unfolding total
+total-near f g more zero some-place each = absurd (omega arith)
+total-near f g more (suc zero) some-place each = omega (arith, each 0 (omega arith))
+total-near f g more (suc (suc n)) some-place each =
+    omega (
+      arith,
+      total-near f g more (suc n) (omega arith) (λ i h. each i (le-step h)),
+      each (suc n) (lt-suc-self (suc n)),
+      suc-mul (suc n) more,
+    )
 
 -- At the place left out there is 0.
 pub unless-here : (k : ℕ) (f : ℕ → ℕ) → unless k f k ≡ 0

@@ -9,6 +9,8 @@ pub mod Engines
 pub mod Along
 pub mod Methods
 pub mod Demand
+pub mod Rounding
+pub mod Density
 pub mod Alike
 pub mod Numbers
 pub mod Slips

@@ -1,10 +1,10 @@
--- P1 to P10, what the engines do on S, and the sheets that tell: both sides compute to the same.
+-- P1 to P10, what the engines do on S, the sheets that tell, and densities: both sides compute to the same.
 use mathlib.Core.Path.{_≡_, refl}
 use mathlib.Core.List.{[], _∷_}
 use Prim.Native.Nat.{ℕ, zero, suc, _<_}
 use native.Mathlib.Omega.{arith}
 use lib.ListN.{getD}
-use Rattle.laws.specs.Sum.{total, unless}
+use Rattle.laws.specs.Sum.{total, unless, greatest}
 use Rattle.laws.specs.Search.{least}
 use Rattle.laws.specs.Fill.{listed, same}
 use Rattle.laws.specs.Bits.{bits}
@@ -13,7 +13,8 @@ use Rattle.model.specs.Interference.{share, carried, work, shareOf, work
 use Rattle.model.specs.Answer.{RTA, bclAnswer, rtaAnswer, answer}
 use Rattle.model.specs.Refine.{deadlines, turn, round, sweep, until, passes, rounds, atOnce, marked, marks}
 use Rattle.model.specs.Demand.{rowDemand, demandOf, demand, ceiling, busyOf, busy, busyLength, firstMiss, judged, verdict}
-use Rattle.model.specs.Numbers.{WorkedByHand, Runs, needsDeadlines, Telling, InColumns}
+use Rattle.model.specs.Density.{leftSide, meets, billion, rounded, density}
+use Rattle.model.specs.Numbers.{WorkedByHand, Runs, needsDeadlines, Telling, InColumns, Densities}
 
 pub worked-by-hand : WorkedByHand
 unfolding total unless least triples share carried work shareOf workOf others bclTerm bclValue rtaTerm rtaRight bclAnswer rtaAnswer answer rowDemand demandOf demand ceiling busyOf busy busyLength firstMiss judged verdict
@@ -81,3 +82,20 @@ telling =
 pub in-columns : InColumns
 unfolding total least columns rowDemand demandOf demand ceiling busyOf busy busyLength firstMiss judged verdict
 in-columns = record { fits-at-3 = refl; misses-at-3 = refl; by-costs = refl }
+
+pub densities : Densities
+unfolding total greatest triples ceiling leftSide meets billion rounded density
+densities =
+    record {
+      s-up = refl;
+      s-down = refl;
+      s-holds = refl;
+      thirds-up = refl;
+      thirds-down = refl;
+      thirds-unsure = refl;
+      above-unsure = refl;
+      equal = refl;
+      equal-on-many = refl;
+      twins-fail = refl;
+      twins-fail-on-two = refl;
+    }

@@ -4,5 +4,6 @@ pub mod Answer
 pub mod Refine
 pub mod Alike
 pub mod Demand
+pub mod Density
 pub mod Numbers
 pub mod Inner

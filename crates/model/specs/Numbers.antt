@@ -1,4 +1,4 @@
--- Numbers worked by hand: cases P1 to P10, as one table; what the engines do on S; and sheets that tell wrong tools from right ones.
+-- Numbers worked by hand: cases P1 to P10, as one table; what the engines do on S; sheets that tell wrong tools from right ones; densities.
 use mathlib.Core.Path.{_≡_}
 use mathlib.Core.List.{[], _∷_}
 use mathlib.Core.Option.{none, some}
@@ -7,6 +7,7 @@ use Rattle.model.specs.Interference.{share, work}
 use Rattle.model.specs.Answer.{BCL, RTA, answer}
 use Rattle.model.specs.Refine.{Ask, round, sweep, rounds, atOnce, marks, Consistent}
 use Rattle.model.specs.Demand.{rowDemand, verdict, miss, fits, undecided}
+use Rattle.model.specs.Density.{leftSide, roundedUp, roundedDown, density, holds, fails, unsure}
 
 -- Case S: three rows, two of them twins.
 abbrev pub caseS : Sheet
@@ -119,3 +120,29 @@ pub record InColumns : Type 0 where
   pub fits-at-3 : verdict (columns (1 ∷ 2 ∷ []) (2 ∷ 3 ∷ []) (4 ∷ 4 ∷ [])) 3 ≡ fits 3
   pub misses-at-3 : verdict (columns (2 ∷ 2 ∷ []) (2 ∷ 3 ∷ []) (4 ∷ 4 ∷ [])) 3 ≡ miss 3
   pub by-costs : (columns (1 ∷ []) (2 ∷ 3 ∷ []) (4 ∷ 4 ∷ 4 ∷ [])) .rows ≡ 1
+
+-- Three rows (1,3,3): together exactly 1, and rounded up two billionths more.
+abbrev pub thirds : Sheet
+thirds = triples 3 (1 ∷ 3 ∷ 3 ∷ 1 ∷ 3 ∷ 3 ∷ 1 ∷ 3 ∷ 3 ∷ [])
+
+-- (1,999999,999999),(999999,1000000,1000000): together a thousandth of a billionth above 1.
+abbrev pub justAbove : Sheet
+justAbove = triples 2 (1 ∷ 999_999 ∷ 999_999 ∷ 999_999 ∷ 1_000_000 ∷ 1_000_000 ∷ [])
+
+-- Densities in billionths, and the test's answers.
+pub record Densities : Type 0 where
+  -- S on two processors: 1,800,000,000 against 2,000,000,000, rounded up or down. With m × largest it would be 2,300,000,000.
+  pub s-up : leftSide 2 (roundedUp caseS) 3 ≡ 1_800_000_000
+  pub s-down : leftSide 2 (roundedDown caseS) 3 ≡ 1_800_000_000
+  pub s-holds : density caseS 2 ≡ holds
+  -- Each density is rounded, not the sum; and up for yes, down for no.
+  pub thirds-up : leftSide 1 (roundedUp thirds) 3 ≡ 1_000_000_002
+  pub thirds-down : leftSide 1 (roundedDown thirds) 3 ≡ 999_999_999
+  pub thirds-unsure : density thirds 1 ≡ unsure
+  pub above-unsure : density justAbove 1 ≡ unsure
+  -- Equality meets the test: one row (5,5,10), on one processor and on 64.
+  pub equal : density single 1 ≡ holds
+  pub equal-on-many : density single 64 ≡ holds
+  -- Two rows (3,4,4) are two rows, and the largest density counts m − 1 times more: on two processors 2,250,000,000.
+  pub twins-fail : density twins 1 ≡ fails
+  pub twins-fail-on-two : density twins 2 ≡ fails
