@@ -4,7 +4,7 @@ use mathlib.Core.Path.{_≡_, refl, sym, _∙_, ap, ap₂}
 use mathlib.Core.Bool.{Bool, true, false, not}
 use mathlib.Core.Logic.{_↔_}
 use Prim.Native.Nat.{ℕ, zero, suc, _+_, _*_, _-_, _/_, _≤_, _<_}
-use native.Mathlib.Nat.{le-trans, le-of-lt, add-le-add, le-refl, le-of-eq, lt-of-lt-of-le, lt-of-le-of-lt, mul-comm, mul-assoc, mul-right-comm, add-mul, mul-add, mul-le-mul-left, mul-le-mul-right, mul-lt-mul-of-pos-right, le-of-mul-le-mul-right, lt-of-mul-lt-mul-right, eq-of-mul-eq-mul-right, div-mul-le-self, div-zero, div-mul-cancel}
+use native.Mathlib.Nat.{le-trans, le-of-suc-le-suc, suc-mul, le-of-lt, add-le-add, le-refl, le-of-eq, lt-of-lt-of-le, lt-of-le-of-lt, mul-comm, mul-assoc, mul-right-comm, add-mul, mul-add, mul-le-mul-left, mul-le-mul-right, mul-lt-mul-of-pos-right, le-of-mul-le-mul-right, lt-of-mul-lt-mul-right, eq-of-mul-eq-mul-right, div-mul-le-self, div-zero, div-mul-cancel}
 use native.Mathlib.Omega.{arith}
 use borrow.Author.Tests.{leb-true, leb-false, le-leb, lt-leb}
 use lib.Dec.{leb}
@@ -14,10 +14,11 @@ use Rattle.laws.proofs.Order.{div-mono}
 use Rattle.laws.proofs.Choice.{pick-yes, pick-no}
 use Rattle.laws.proofs.Sum.{total-mono, total-same, total-scaled, total-near}
 use Rattle.laws.proofs.Greatest.{greatest-above, greatest-near, greatest-mono, greatest-same, greatest-scaled, greatest-at, greatest-kept, product-positive, product-divides}
-use Rattle.model.specs.Sheet.{Sheet}
+use Rattle.model.specs.Sheet.{Sheet, Allowed}
 use Rattle.model.specs.Demand.{ceiling}
 use Rattle.model.specs.Density.{leftSide, Meets, meets, billion, rounded, roundedUp, roundedDown, Judgement, holds, fails, unsure, density, InBillionths, Exact, commonWhole, partsOfWhole, Says}
 use Rattle.model.specs.Alike.{Alike}
+use Rattle.model.proofs.Sheet.{row-sized}
 use Rattle.model.proofs.Rounding.{Rounding, floor-rounds, ceiling-rounds, ceiling-above}
 
 -- The left side keeps order, is the same where each density is, and is told in another unit as they are.
@@ -57,6 +58,20 @@ down-below-up s i = by-deadline (s .deadline i)
     by-deadline : (d : ℕ) → s .cost i * billion / d ≤ (s .cost i * billion + d - 1) / d
     by-deadline zero = omega (arith, div-zero (s .cost i * billion))
     by-deadline (suc d) = div-mono (suc d) (omega arith)
+
+-- Every deadline of an allowed sheet is at least 1.
+pub deadlines-whole : (s : Sheet) → Allowed s → (i : ℕ) → i < s .rows → 1 ≤ s .deadline i
+deadlines-whole s sizes i here = let row = row-sized s sizes i here in le-trans (row .positive) (row .by-deadline)
+
+-- A density is at most 1, however it is rounded, where the cost is at most the deadline.
+pub rounded-within : (s : Sheet) → Allowed s → (rounding : ℕ → ℕ → ℕ) → Rounding rounding → (i : ℕ) → i < s .rows
+    → rounded rounding s i ≤ billion
+unfolding rounded
+rounded-within s sizes rounding rounds i here =
+    le-of-suc-le-suc
+    (lt-of-mul-lt-mul-right (s .deadline i)
+    (lt-of-lt-of-le (rounds .above-by-less (s .cost i * billion) (s .deadline i) (deadlines-whole s sizes i here))
+    (omega (arith, mul-le-mul-right billion (row-sized s sizes i here .by-deadline), mul-comm (s .deadline i) billion, suc-mul billion (s .deadline i)))))
 
 -- What the answer means in billionths, and that the meaning fixes it: rounded down is never above rounded up.
 pub density-means : (s : Sheet) (m : ℕ) → InBillionths s m (density s m)

@@ -1,7 +1,7 @@
 -- Rounding a fraction, down or up: equal fractions are rounded alike, order is kept, and it is off by less than one.
 use mathlib.Core.Path.{_≡_, sym, _∙_, ap, ap₂}
 use Prim.Native.Nat.{ℕ, _+_, _*_, _-_, _/_, _≤_, _<_}
-use native.Mathlib.Nat.{mul-comm, add-mul, div-mul-le-self, lt-div-mul-add, mul-div-mul-right, div-div-eq-div-mul, mul-add-div-right, div-eq-of-lt}
+use native.Mathlib.Nat.{mul-comm, add-mul, div-mul-le-self, lt-div-mul-add, mul-div-mul-right, div-div-eq-div-mul, mul-add-div-right, div-eq-of-lt, div-eq-of-lt-le}
 use native.Mathlib.Omega.{arith}
 use Rattle.laws.proofs.Order.{div-mono}
 use Rattle.model.specs.Demand.{ceiling}
@@ -47,3 +47,17 @@ ceiling-rounds =
 pub ceiling-above : (a d : ℕ) → 1 ≤ d → a ≤ ceiling a d * d
 unfolding ceiling
 ceiling-above a d whole = omega (arith, lt-div-mul-add {a = a + d - 1} whole)
+
+-- Rounded up is what it is rounded down, and one more where that leaves a rest.
+pub up-with-rest : (a d : ℕ) → 1 ≤ d → a / d * d < a → a / d + 1 ≡ ceiling a d
+unfolding ceiling
+up-with-rest a d whole rest =
+    sym
+    (div-eq-of-lt-le d
+    (omega (arith, add-mul (a / d) 1 d))
+    (omega (arith, lt-div-mul-add {a = a} whole, add-mul (a / d) 1 d, add-mul (a / d + 1) 1 d)))
+
+pub up-without-rest : (a d : ℕ) → 1 ≤ d → a ≤ a / d * d → a / d ≡ ceiling a d
+unfolding ceiling
+up-without-rest a d whole no-rest =
+    sym (div-eq-of-lt-le d (omega (arith, div-mul-le-self a d)) (omega (arith, div-mul-le-self a d, add-mul (a / d) 1 d)))

@@ -1,0 +1,3 @@
+pub mod Checked
+pub mod Promised
+pub mod Summed

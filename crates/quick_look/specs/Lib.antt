@@ -1,0 +1,2 @@
+pub mod DensityTest
+pub mod Inner
