@@ -51,7 +51,7 @@ extern "C" {
 #endif
 
 /* The version of this header and of the archive that is made beside it. */
-#define CIRCUITRAIL_VERSION "0.2.0"
+#define CIRCUITRAIL_VERSION "0.3.0"
 
 /* Every call takes fewer bytes of stack than this. Interrupt handlers that run on the same stack come on top. */
 #define CIRCUITRAIL_STACK_BYTES 5120
@@ -90,7 +90,7 @@ enum {
     CIRCUITRAIL_FITS = 2
 };
 
-/* Answers of the density test. */
+/* Answers of the density test, a quick look. */
 enum {
     CIRCUITRAIL_DENSITY_UNSURE = 0,
     CIRCUITRAIL_DENSITY_YES = 1,

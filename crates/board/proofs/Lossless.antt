@@ -1,4 +1,5 @@
--- Nothing is lost in numbers. A bound is at least its row's cost, so 0 is left for none; the cases of an outcome have different numbers.
+-- Nothing is lost in numbers. A bound is at least its row's cost, so 0 is left for none; the cases of an outcome and of a reply have
+-- different numbers.
 use mathlib.Core.Path.{_≡_, refl, _∙_, ap}
 use mathlib.Core.List.{List}
 use Prim.Native.Nat.{ℕ, _≤_}
@@ -21,9 +22,13 @@ use Rattle.refinement.proofs.Question.{asked, one-row-answered, one-row-refused
 use Rattle.verdict.specs.declared.Answer.{Answer}
 use Rattle.verdict.specs.OneProcessor.{oneProcessorIn}
 use Rattle.verdict.proofs.Promised.{numbers-fix, refused-zeros, keeps}
+use Rattle.quick_look.specs.declared.DensityAnswer.{DensityAnswer}
+use Rattle.quick_look.specs.DensityTest.{densityIn}
+use Rattle.quick_look.proofs.Promised.{reply-fixed, refused-zero}
 use Rattle.board.specs.declared.RowNumbers.{RowNumbers}
 use Rattle.board.specs.declared.OutcomeNumbers.{OutcomeNumbers}
-use Rattle.board.specs.Face.{rowInNumbers, outcomeInNumbers}
+use Rattle.board.specs.declared.DensityNumbers.{DensityNumbers}
+use Rattle.board.specs.Face.{rowInNumbers, outcomeInNumbers, densityInNumbers}
 
 -- A bound that is answered is not 0.
 abbrev pub Positive : Found → Type 0
@@ -73,7 +78,14 @@ outcome-fixed r q same =
     numbers-fix (r .outcome) (q .outcome) (ap (λ (n : OutcomeNumbers). n .outcome) same) (ap (λ (n : OutcomeNumbers). n .length) same) in
     λ i. record { refusal = (same i) .refusal; place = (same i) .place; outcome = outcomes i }
 
--- Refused, every number of the two answers but the refusal's own number and place is 0.
+-- Answers of the density test that are told in the same numbers are the same.
+pub density-number-fixed : (r q : DensityAnswer) → densityInNumbers r ≡ densityInNumbers q → r ≡ q
+unfolding densityInNumbers
+density-number-fixed r q same =
+    let answers = reply-fixed (r .answer) (q .answer) (ap (λ (n : DensityNumbers). n .answer) same) in
+    λ i. record { refusal = (same i) .refusal; place = (same i) .place; answer = answers i }
+
+-- Refused, every number of these answers but the refusal's own number and place is 0.
 pub row-zero : (lent : Lent) (m method : ℕ) (R : List ℕ) (row : ℕ) → ((rowInNumbers (oneRowIn lent m method R row)) .refusal ≡ 0 → ⊥)
     → (rowInNumbers (oneRowIn lent m method R row)) .bound ≡ 0
 unfolding rowInNumbers boundOr
@@ -84,7 +96,12 @@ pub outcome-zeros : (lent : Lent) (h : ℕ) → ((outcomeInNumbers (oneProcessor
 unfolding outcomeInNumbers
 outcome-zeros lent h one-holds = refused-zeros _ _ h (λ zero. one-holds (keeps _ _ h .number ∙ zero))
 
--- Two results that the contracts of the two functions allow are equal.
+pub density-zero : (lent : Lent) (m : ℕ) → ((densityInNumbers (densityIn lent m)) .refusal ≡ 0 → ⊥)
+    → (densityInNumbers (densityIn lent m)) .answer ≡ 0
+unfolding densityInNumbers
+density-zero lent m one-holds = refused-zero (lent .broken) (lent .sheet) m one-holds
+
+-- Two results that the contracts of these functions allow are equal.
 pub row-numbers-unique : (lent : Lent) (m method : ℕ) (R : List ℕ) (row : ℕ) (first second : RowNumbers)
     → first ≡ rowInNumbers (oneRowIn lent m method R row) → second ≡ rowInNumbers (oneRowIn lent m method R row) → first ≡ second
 row-numbers-unique lent m method R row first second = one-answer
@@ -92,3 +109,7 @@ row-numbers-unique lent m method R row first second = one-answer
 pub outcome-numbers-unique : (lent : Lent) (h : ℕ) (first second : OutcomeNumbers) → first ≡ outcomeInNumbers (oneProcessorIn lent h)
     → second ≡ outcomeInNumbers (oneProcessorIn lent h) → first ≡ second
 outcome-numbers-unique lent h first second = one-answer
+
+pub density-numbers-unique : (lent : Lent) (m : ℕ) (first second : DensityNumbers) → first ≡ densityInNumbers (densityIn lent m)
+    → second ≡ densityInNumbers (densityIn lent m) → first ≡ second
+density-numbers-unique lent m first second = one-answer

@@ -7,10 +7,13 @@ use analysis::refine_at_once;
 use analysis::refine_at_once_columns;
 use analysis::refine_rounds;
 use analysis::refine_rounds_columns;
+use cases::density_numbers;
 use cases::outcome_numbers;
 use cases::row_numbers;
 use demand::one_processor;
 use demand::one_processor_columns;
+use density::density;
+use density::density_columns;
 use grammar::Read;
 use grammar::Written;
 use refinement::Refined;
@@ -26,9 +29,10 @@ ghost use Rattle.rows.specs.Layouts.{inColumns};
 ghost use Rattle.refinement.specs.Question.{oneRowIn, oneRow};
 ghost use Rattle.refinement.specs.Refinement.{refinedIn, refinedWordsIn, refined, refinedWords};
 ghost use Rattle.verdict.specs.OneProcessor.{oneProcessorIn, oneProcessor};
+ghost use Rattle.quick_look.specs.DensityTest.{densityIn, densityTest};
 ghost use Rattle.grammar.specs.Sheets.{readSheet, wordsAfter, writeSheet, bytesAfter};
 ghost use Rattle.report.specs.Result.{writeResultIn, resultAfterIn, writeResult, resultAfter, answerSheet, answerAfter};
-ghost use Rattle.board.specs.Face.{rowInNumbers, outcomeInNumbers};
+ghost use Rattle.board.specs.Face.{rowInNumbers, outcomeInNumbers, densityInNumbers};
 
 // The answer to the one-row question in numbers: the bound is 0 where there is none.
 #[repr(C)]
@@ -45,6 +49,14 @@ pub struct OutcomeNumbers {
     pub place: u32,
     pub outcome: u32,
     pub length: u32,
+}
+
+// The answer of the density test in numbers: 0 is unsure, 1 yes, 2 no.
+#[repr(C)]
+pub struct DensityNumbers {
+    pub refusal: u32,
+    pub place: u32,
+    pub answer: u32,
 }
 
 // One row's answer under given bounds.
@@ -156,6 +168,27 @@ pub extern "C" fn circuitrail_one_processor_columns(
     ensures { λ r. ⌜ r ≡ outcomeInNumbers (oneProcessorIn (inColumns (now (costs .entry)) (now (deadlines .entry)) (now (periods .entry))) horizon) ⌝ }
 {
     outcome_numbers(one_processor_columns(costs, deadlines, periods, horizon))
+}
+
+// Whether the densities of the rows meet the test.
+#[no_mangle]
+pub extern "C" fn circuitrail_density(words: &[u32], processors: u32) -> DensityNumbers
+    ensures { λ r. ⌜ r ≡ densityInNumbers (densityTest (now (words .entry)) processors) ⌝ }
+{
+    density_numbers(density(words, processors))
+}
+
+// The same of rows in columns.
+#[no_mangle]
+pub extern "C" fn circuitrail_density_columns(
+    costs: &[u32],
+    deadlines: &[u32],
+    periods: &[u32],
+    processors: u32,
+) -> DensityNumbers
+    ensures { λ r. ⌜ r ≡ densityInNumbers (densityIn (inColumns (now (costs .entry)) (now (deadlines .entry)) (now (periods .entry))) processors) ⌝ }
+{
+    density_numbers(density_columns(costs, deadlines, periods, processors))
 }
 
 // Reads a task sheet, its rows' words written to the front of the lent words.

@@ -13,6 +13,7 @@ use Rattle.rows.proofs.Layouts.{layouts-same, as-columns, as-triples}
 use Rattle.refinement.proofs.Demands.{rounds-alike, at-once-alike}
 use Rattle.refinement.proofs.Layouts.{one-row-same, refined-same, refined-words-same}
 use Rattle.verdict.proofs.Promised.{one-processor-same}
+use Rattle.quick_look.proofs.Promised.{density-same}
 use Rattle.report.proofs.Entries.{written-same, bytes-same}
 use Rattle.entries.specs.Layouts.{SameAnswers}
 
@@ -25,6 +26,7 @@ same-answers one other same =
       at-once = λ m method room. refined-same one other same m method atOnce at-once-alike room;
       at-once-words = λ m method out. refined-words-same one other same m method atOnce at-once-alike out;
       one-processor = one-processor-same one other same;
+      density = density-same one other same;
       result = written-same one other same;
       result-bytes = bytes-same one other same;
     }

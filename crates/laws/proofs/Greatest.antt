@@ -1,5 +1,5 @@
 -- Laws of the greatest and of the product over places, by induction on the number of places.
-use mathlib.Core.Path.{_≡_, refl, _∙_, ap, sym}
+use mathlib.Core.Path.{_≡_, refl, _∙_, sym}
 use mathlib.Core.Logic.{⊎-elim}
 use Prim.Native.Nat.{ℕ, zero, suc, _+_, _*_, _≤_, _<_, _∣_, max}
 use native.Mathlib.Nat.{le-antisymm, le-refl, le-of-eq, le-step, le-of-suc-le-suc, lt-suc-self, eq-or-lt-of-le, mul-le-mul-right, zero-mul, one-le-mul, dvd-mul-left, dvd-mul-right-of-dvd}

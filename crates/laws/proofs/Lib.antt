@@ -1,5 +1,6 @@
 pub mod Order
 pub mod Choice
+pub mod Promised
 pub mod Sum
 pub mod Greatest
 pub mod Concave

@@ -8,6 +8,7 @@ use native.Mathlib.Decide.{ℕ-discrete}
 use native.Mathlib.Omega.{arith}
 use Rattle.laws.specs.Choice.{unlessRefused}
 use Rattle.laws.proofs.Choice.{not-refused, is-refused, one-answer}
+use Rattle.laws.proofs.Promised.{Parts, kept, fixed}
 use Rattle.model.specs.Sheet.{Sheet, Allowed}
 use Rattle.model.specs.Density.{leftSide, Meets, Judgement, holds, fails, unsure, density, Exact, commonWhole, partsOfWhole, Near, Says}
 use Rattle.model.specs.Alike.{Alike}
@@ -18,7 +19,7 @@ use Rattle.rows.specs.Checks.{refused}
 use Rattle.rows.specs.Layouts.{Lent, shapeRefusal, SameRows}
 use Rattle.rows.proofs.Alike.{laid-refusal-alike}
 use Rattle.rows.proofs.Checks.{shape-refused}
-use Rattle.rows.proofs.Promised.{Carries, Parts, kept, fixed, same-rows-answered}
+use Rattle.rows.proofs.Layouts.{same-rows-answered}
 use Rattle.quick_look.specs.declared.Reply.{Reply}
 use Rattle.quick_look.specs.declared.Reply.the-variants.{Yes, No, Unsure}
 use Rattle.quick_look.specs.declared.DensityAnswer.{DensityAnswer}
@@ -80,7 +81,7 @@ module _ (broken : Bool) (s : Sheet) (m : ℕ) where
   unfolding densityOf
   density-keeps =
       let carries =
-      kept _ _ _ made parts table Unsure (replyOf (density s m)) (Judges s m) no-place
+      kept _ _ _ made parts (table .number) (table .place) Unsure (replyOf (density s m)) (Judges s m) no-place
       (λ zero. let facts = checked broken s m zero in worked-judges s m (facts .sizes) (facts .some-processor)) in
       record { number = carries .numbered; place = carries .placed; means = carries .means; nothing = carries .nothing }
 
@@ -88,7 +89,7 @@ module _ (broken : Bool) (s : Sheet) (m : ℕ) where
   pub density-answer-fixed : (a : DensityAnswer) → DensityPromise table s m a → a ≡ densityOf table s m
   unfolding densityOf
   density-answer-fixed a promise =
-      fixed _ _ _ made parts table Unsure (replyOf (density s m)) (Judges s m) no-place (λ zero. judges-fixed s m) a
+      fixed _ _ _ made parts (table .number) (table .place) Unsure (replyOf (density s m)) (Judges s m) no-place (λ zero. judges-fixed s m) a
       (record { numbered = promise .number; placed = promise .place; means = promise .means; nothing = promise .nothing })
 
   -- It is not refused exactly where everything asked for holds.

@@ -6,7 +6,6 @@ use mathlib.Core.List.{List, [], _∷_}
 use mathlib.Core.Option.{Option, none, some}
 use mathlib.Core.Logic.{_↔_}
 use Prim.Native.Nat.{ℕ, _<_}
-use native.Mathlib.Decide.{ℕ-discrete}
 use native.Mathlib.Omega.{arith}
 use borrow.Author.Tests.{ltb-true, leb-true, eqb-true, lt-ltb, eq-eqb, le-leb}
 use lib.Dec.{leb, ltb, eqb}
@@ -14,9 +13,10 @@ use lib.ListN.{length, getD}
 use Rattle.laws.specs.Choice.{pick}
 use Rattle.laws.specs.Bits.{every}
 use Rattle.laws.proofs.Choice.{not-refused, is-refused, and-left, and-right, one-answer, and-both, pick-yes, number-kept}
+use Rattle.laws.proofs.Promised.{Parts, kept, fixed}
 use Rattle.laws.proofs.Bits.{every-each, each-every}
 use Rattle.model.specs.Sheet.{Sheet, Allowed}
-use Rattle.model.specs.Answer.{methodOf, answer}
+use Rattle.model.specs.Answer.{methodOf, answer, Answers}
 use Rattle.model.proofs.Sheet.{allowed-processors, processors-allowed}
 use Rattle.model.proofs.Answer.{answer-means, answer-fixed}
 use Rattle.rows.specs.declared.Found.{Found}
@@ -100,9 +100,12 @@ unfolding answerOf foundOf
 found-answer (At x) = refl
 found-answer Nowhere = refl
 
--- Results are the same by their parts.
-same-row : (r q : OneRow) → r .refusal ≡ q .refusal → r .place ≡ q .place → r .answer ≡ q .answer → r ≡ q
-same-row r q number place answer = λ i. record { refusal = number i; place = place i; answer = answer i }
+-- A result is its number, its place and its answer.
+abbrev made : ℕ → ℕ → Found → OneRow
+made number place found = record { refusal = number; place = place; answer = found }
+
+parts : Parts {A = OneRow} (λ r. r .refusal) (λ r. r .place) (λ r. r .answer) made
+parts = record { number-of = λ n p f. refl; place-of = λ n p f. refl; said-of = λ n p f. refl; whole = λ r. refl }
 
 module _ (broken : Bool) (s : Sheet) (m method : ℕ) (R : List ℕ) (row : ℕ) where
   -- The checks before 9.
@@ -142,10 +145,6 @@ module _ (broken : Bool) (s : Sheet) (m method : ℕ) (R : List ℕ) (row : ℕ)
       not-refused _ _ _ (ap (λ (r : Refusal). r .number) (posed-passes broken s m method [] (facts .posed) tt))
       ∙ pick-yes _ _ _ (ready-question s R row (facts .ready) (facts .there))
 
-  -- With number 0 the place is 0 too.
-  one-row-passed : (oneRowRefusalOf broken s m method R row) .number ≡ 0 → oneRowRefusalOf broken s m method R row ≡ notRefused
-  one-row-passed zero = askable (asked zero)
-
 module _ (refusal : Refusal) (s : Sheet) (m method : ℕ) (R : List ℕ) (row : ℕ) where
   -- The answer carries the refusal's number.
   pub one-row-number : (oneRowOf refusal s m method R row) .refusal ≡ refusal .number
@@ -183,34 +182,27 @@ module _ (broken : Bool) (s : Sheet) (m method : ℕ) (R : List ℕ) (row : ℕ)
     λ facts. one-row-number table s m method R row ∙ ap (λ (r : Refusal). r .number) (askable broken s m method R row facts),
   )
 
+  -- With number 0 the place is 0 too, and what is meant is the one-row answer.
+  no-place : table .number ≡ 0 → table .place ≡ 0
+  no-place zero = ap (λ (r : Refusal). r .place) (askable broken s m method R row (asked broken s m method R row zero))
+
+  abbrev Meant : Found → Type 0
+  Meant found = Answers (methodOf method) s m row R (answerOf found)
+
   -- The answer keeps the promise.
   pub one-row-keeps : OneRowPromise table s m method R row said
-  one-row-keeps = decided (ℕ-discrete (table .number) 0)
-    where
-      decided : Dec (table .number ≡ 0) → OneRowPromise table s m method R row said
-      decided (yes zero) =
-          rw (one-row-answered table s m method R row zero)
-          (record {
-            number = sym zero;
-            place = ap (λ (r : Refusal). r .place) (sym (one-row-passed broken s m method R row zero));
-            answered = λ none-refused. rw answer-found (answer-means s m row R (methodOf method));
-            nothing = λ refused-it-is. absurd (refused-it-is refl);
-          })
-      decided (no one-refused) =
-          rw (one-row-refused table s m method R row table refl one-refused)
-          (record { number = refl; place = refl; answered = λ zero. absurd (one-refused zero); nothing = λ refused-it-is. refl })
+  unfolding oneRowOf
+  one-row-keeps =
+      let carries =
+      kept _ _ _ made parts _ _ Nowhere (foundOf (answer (methodOf method) s m row R)) Meant no-place
+      (λ zero. rw answer-found (answer-means s m row R (methodOf method))) in
+      record { number = carries .numbered; place = carries .placed; answered = carries .means; nothing = carries .nothing }
 
   -- And only it does.
   pub one-row-fixed : (r : OneRow) → OneRowPromise table s m method R row r → r ≡ said
-  one-row-fixed r promise = decided (ℕ-discrete (table .number) 0)
-    where
-      decided : Dec (table .number ≡ 0) → r ≡ said
-      decided (yes zero) =
-          same-row r _ (promise .number ∙ zero) (promise .place ∙ ap (λ (r : Refusal). r .place) (one-row-passed broken s m method R row zero))
-          (sym (found-answer (r .answer))
-          ∙ ap foundOf
-          (sym (answer-fixed s m row R (methodOf method) (answerOf (r .answer)) (promise .answered (promise .number ∙ zero)))))
-          ∙ sym (one-row-answered table s m method R row zero)
-      decided (no one-refused) =
-          same-row r _ (promise .number) (promise .place) (promise .nothing (λ zero. one-refused (sym (promise .number) ∙ zero)))
-          ∙ sym (one-row-refused table s m method R row table refl one-refused)
+  unfolding oneRowOf
+  one-row-fixed r promise =
+      fixed _ _ _ made parts _ _ Nowhere (foundOf (answer (methodOf method) s m row R)) Meant no-place
+      (λ zero found meant.
+      sym (found-answer found) ∙ ap foundOf (sym (answer-fixed s m row R (methodOf method) (answerOf found) meant))) r
+      (record { numbered = promise .number; placed = promise .place; means = promise .answered; nothing = promise .nothing })

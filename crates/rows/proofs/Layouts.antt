@@ -1,6 +1,6 @@
 -- Layouts: what even columns are, that a list of rows is the same rows in triples and in columns, and what triples taken apart leave.
 use mathlib.Core.Path.{_≡_, refl, sym, _∙_, ap}
-use mathlib.Core.Bool.{false, not, _&&_}
+use mathlib.Core.Bool.{Bool, false, not, _&&_}
 use mathlib.Core.List.{List, [], _∷_}
 use Prim.Native.Nat.{ℕ, _+_, _*_, _%_, _≤_, _<_}
 use native.Mathlib.Omega.{arith}
@@ -11,8 +11,10 @@ use Rattle.laws.specs.Fill.{listed, joined}
 use Rattle.laws.proofs.Choice.{and-left, and-right, and-both}
 use Rattle.laws.proofs.Fill.{listed-length, listed-at, listed-back, joined-length, joined-at}
 use Rattle.model.specs.Sheet.{Sheet, triples, columns}
+use Rattle.model.specs.Alike.{Alike}
 use Rattle.model.specs.Refine.{deadlines}
 use Rattle.model.proofs.Alike.{alike-back, alike-then}
+use Rattle.rows.specs.declared.Refusal.{Refusal}
 use Rattle.rows.specs.Words.{sheetOf}
 use Rattle.rows.specs.Checks.{notWhole}
 use Rattle.rows.specs.Layouts.{Lent, inTriples, uneven, inColumns, shapeRefusal, SameRows, asTriples, asColumns}
@@ -86,6 +88,19 @@ module _ (s : Sheet) where
   -- So a list of rows is the same rows in either layout.
   pub layouts-same : SameRows (asTriples s) (asColumns s)
   layouts-same = same-then _ laid-out _ (same-back laid-out _ in-triples-same) in-columns-same
+
+-- One congruence for every entry: the same rows are answered the same, where alike sheets are refused and answered alike.
+pub same-rows-answered : {A : Type 0} (refusalOf : Bool → Sheet → Refusal) (answerOf : Refusal → Sheet → A)
+    → ((s t : Sheet) → Alike s t → (broken : Bool) → refusalOf broken s ≡ refusalOf broken t)
+    → ((s t : Sheet) → Alike s t → (refusal : Refusal) → answerOf refusal s ≡ answerOf refusal t)
+    → (one other : Lent) → SameRows one other
+    → answerOf (refusalOf (one .broken) (one .sheet)) (one .sheet) ≡ answerOf (refusalOf (other .broken) (other .sheet)) (other .sheet)
+same-rows-answered refusalOf answerOf refused-alike answered-alike one other same =
+    let s = one .sheet in
+    let t = other .sheet in
+    answered-alike s t (same .alike) (refusalOf (one .broken) s)
+    ∙ ap (λ (r : Refusal). answerOf r t)
+    (ap (λ (broken : Bool). refusalOf broken s) (same .layout) ∙ refused-alike s t (same .alike) (other .broken))
 
 -- Whole triples have columns that are the same rows, and even columns have triples.
 pub as-columns : (words : List ℕ) → notWhole words ≡ false → SameRows (inTriples words) (asColumns (sheetOf words))

@@ -3,4 +3,3 @@ pub mod Fold
 pub mod Checks
 pub mod Alike
 pub mod Layouts
-pub mod Promised

@@ -8,6 +8,7 @@ use borrow.Author.Tests.{eqb-true, eqb-false}
 use lib.Dec.{eqb}
 use Rattle.laws.specs.Choice.{unlessRefused}
 use Rattle.laws.proofs.Choice.{not-refused, is-refused, one-answer}
+use Rattle.laws.proofs.Promised.{Parts, kept, fixed}
 use Rattle.model.specs.Sheet.{Sheet}
 use Rattle.model.specs.Demand.{Verdict, miss, fits, undecided, demand, verdict, Means}
 use Rattle.model.specs.Alike.{Alike}
@@ -18,6 +19,7 @@ use Rattle.rows.specs.Checks.{refused}
 use Rattle.rows.specs.Layouts.{Lent, shapeRefusal, SameRows}
 use Rattle.rows.proofs.Alike.{laid-refusal-alike}
 use Rattle.rows.proofs.Checks.{shape-refused}
+use Rattle.rows.proofs.Layouts.{same-rows-answered}
 use Rattle.verdict.specs.declared.Outcome.{Outcome}
 use Rattle.verdict.specs.declared.Outcome.the-variants.{Miss, Fits, Undecided}
 use Rattle.verdict.specs.declared.Answer.{Answer}
@@ -37,15 +39,12 @@ outcome-back (Miss t) = refl
 outcome-back (Fits b) = refl
 outcome-back Undecided = refl
 
--- Answers with the same fields are the same.
-same-fields : (a b : Answer) → a .refusal ≡ b .refusal → a .place ≡ b .place → a .outcome ≡ b .outcome → a ≡ b
-same-fields a b refusals places outcomes =
-    ap (λ (refusal : ℕ). made refusal (a .place) (a .outcome)) refusals
-    ∙ ap (λ (place : ℕ). made (b .refusal) place (a .outcome)) places
-    ∙ ap (λ (outcome : Outcome). made (b .refusal) (b .place) outcome) outcomes
-  where
-    made : ℕ → ℕ → Outcome → Answer
-    made refusal place outcome = record { refusal = refusal; place = place; outcome = outcome }
+-- An answer is its number, its place and its outcome.
+abbrev made : ℕ → ℕ → Outcome → Answer
+made number place outcome = record { refusal = number; place = place; outcome = outcome }
+
+parts : Parts {A = Answer} (λ a. a .refusal) (λ a. a .place) (λ a. a .outcome) made
+parts = record { number-of = λ n p o. refl; place-of = λ n p o. refl; said-of = λ n p o. refl; whole = λ a. refl }
 
 -- Refused, the answer is the refused one; not refused, what was worked out.
 pub answer-refused : (refusal : Refusal) (s : Sheet) (h : ℕ) → (refusal .number ≡ 0 → ⊥) → oneProcessorOf refusal s h ≡ refusedAnswer refusal
@@ -56,35 +55,19 @@ pub answer-worked : (refusal : Refusal) (s : Sheet) (h : ℕ) → refusal .numbe
 unfolding oneProcessorOf
 answer-worked refusal s h none-holds = not-refused _ _ _ none-holds
 
+-- With number 0 the place is 0 too.
+no-place : (broken : Bool) (s : Sheet) (h : ℕ) → let refusal = oneProcessorRefusalOf broken s h in refusal .number ≡ 0 → refusal .place ≡ 0
+no-place broken s h zero = ap (λ (r : Refusal). r .place) (checked-passes broken s h (checked broken s h zero))
+
 -- The answer keeps the promise.
 pub keeps : (broken : Bool) (s : Sheet) (h : ℕ)
     → let refusal = oneProcessorRefusalOf broken s h in Promise refusal s h (oneProcessorOf refusal s h)
-unfolding refusedAnswer answered
-keeps broken s h = split (eqb (refusal .number) 0) refl
-  where
-    refusal : Refusal
-    refusal = oneProcessorRefusalOf broken s h
-
-    split : (b : Bool) → eqb (refusal .number) 0 ≡ b → Promise refusal s h (oneProcessorOf refusal s h)
-    split true is-zero =
-        let zero : refusal .number ≡ 0 = eqb-true _ 0 is-zero in
-        let facts = checked broken s h zero in
-        rw (answer-worked refusal s h zero)
-        (record {
-          number = sym zero;
-          place = sym (ap (λ (r : Refusal). r .place) (checked-passes broken s h facts));
-          means = λ none-holds. rw verdict-back (allowed-verdict-means s (facts .sizes) h);
-          nothing = λ one-holds. absurd (one-holds refl);
-        })
-    split false not-zero =
-        let one-holds : refusal .number ≡ 0 → ⊥ = eqb-false _ 0 not-zero in
-        rw (answer-refused refusal s h one-holds)
-        (record {
-          number = refl;
-          place = refl;
-          means = λ none-holds. absurd (one-holds none-holds);
-          nothing = λ one-holds. refl;
-        })
+unfolding oneProcessorOf refusedAnswer answered
+keeps broken s h =
+    let carries =
+    kept _ _ _ made parts _ _ Undecided (outcomeOf (verdict s h)) (λ o. Means s h (verdictOf o)) (no-place broken s h)
+    (λ zero. rw verdict-back (allowed-verdict-means s (checked broken s h zero .sizes) h)) in
+    record { number = carries .numbered; place = carries .placed; means = carries .means; nothing = carries .nothing }
 
 -- It is not refused exactly where everything asked for holds.
 pub one-processor-not-refused : (broken : Bool) (s : Sheet) (h : ℕ)
@@ -97,25 +80,11 @@ one-processor-not-refused broken s h = (
 -- Whatever keeps the promise is the answer.
 pub fixes : (broken : Bool) (s : Sheet) (h : ℕ) (a : Answer)
     → let refusal = oneProcessorRefusalOf broken s h in Promise refusal s h a → a ≡ oneProcessorOf refusal s h
-unfolding refusedAnswer answered
-fixes broken s h a promise = split (eqb (refusal .number) 0) refl
-  where
-    refusal : Refusal
-    refusal = oneProcessorRefusalOf broken s h
-
-    split : (b : Bool) → eqb (refusal .number) 0 ≡ b → a ≡ oneProcessorOf refusal s h
-    split true is-zero =
-        let zero : refusal .number ≡ 0 = eqb-true _ 0 is-zero in
-        let not-refused : a .refusal ≡ 0 = promise .number ∙ zero in
-        same-fields a (answered (verdict s h)) not-refused
-        (promise .place ∙ ap (λ (r : Refusal). r .place) (checked-passes broken s h (checked broken s h zero)))
-        (sym (ap outcomeOf (verdict-fixed s h (verdictOf (a .outcome)) (promise .means not-refused)) ∙ outcome-back (a .outcome)))
-        ∙ sym (answer-worked refusal s h zero)
-    split false not-zero =
-        let one-holds : refusal .number ≡ 0 → ⊥ = eqb-false _ 0 not-zero in
-        same-fields a (refusedAnswer refusal) (promise .number) (promise .place)
-        (promise .nothing (λ zero. one-holds (sym (promise .number) ∙ zero)))
-        ∙ sym (answer-refused refusal s h one-holds)
+unfolding oneProcessorOf refusedAnswer answered
+fixes broken s h a promise =
+    fixed _ _ _ made parts _ _ Undecided (outcomeOf (verdict s h)) (λ o. Means s h (verdictOf o)) (no-place broken s h)
+    (λ zero o means. sym (outcome-back o) ∙ ap outcomeOf (sym (verdict-fixed s h (verdictOf o) means))) a
+    (record { numbered = promise .number; placed = promise .place; means = promise .means; nothing = promise .nothing })
 
 -- Any two results that the contract allows are equal.
 pub one-result : (refusal : Refusal) (s : Sheet) (h : ℕ) (a b : Answer) → a ≡ oneProcessorOf refusal s h → b ≡ oneProcessorOf refusal s h → a ≡ b
@@ -171,11 +140,8 @@ one-processor-alike s t alike refusal h =
 -- So the same rows have one answer, whatever their layouts.
 pub one-processor-same : (one other : Lent) → SameRows one other → (h : ℕ) → oneProcessorIn one h ≡ oneProcessorIn other h
 one-processor-same one other same h =
-    let s = one .sheet in
-    let t = other .sheet in
-    one-processor-alike s t (same .alike) _ h
-    ∙ ap (λ (r : Refusal). oneProcessorOf r t h)
-    (ap (λ (broken : Bool). oneProcessorRefusalOf broken s h) (same .layout) ∙ one-processor-refusal-alike s t (same .alike) (other .broken) h)
+    same-rows-answered (λ broken s. oneProcessorRefusalOf broken s h) (λ refusal s. oneProcessorOf refusal s h)
+    (λ s t alike broken. one-processor-refusal-alike s t alike broken h) (λ s t alike refusal. one-processor-alike s t alike refusal h) one other same
 
 -- Rows that 2 or 3 refuses are answered so, whatever the horizon.
 pub one-processor-shape-refused : (lent : Lent) (h : ℕ) → (shapeRefusal lent ≡ 0 → ⊥)

@@ -1,6 +1,7 @@
-// Every number of the scope document's list of runs, and every one-row and one-processor case of its table, taken through the public entries
-// and written one to a line.
+// Every number of the scope document's list of runs, every one-row and one-processor case of its table, and the density test's numbers, taken
+// through the public entries and written one to a line.
 mod case_s;
+mod densities;
 mod exact;
 mod say;
 mod sizes;
@@ -24,6 +25,9 @@ fn main() {
     exact::one_row();
     exact::common_multiple();
     exact::longest_horizon();
+    densities::case_s();
+    densities::unsure();
+    densities::equal();
     sizes::row_counts();
     sizes::periods();
 }

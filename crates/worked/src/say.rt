@@ -1,6 +1,8 @@
 // Writing what an entry answered, in words and decimal numbers.
 use grammar::Written;
 use libc::STDOUT_FILENO;
+use quick_look::DensityAnswer;
+use quick_look::Reply;
 use refinement::OneRow;
 use refinement::Refined;
 use rows::Found;
@@ -85,6 +87,20 @@ pub(crate) fn outcome(answer: Answer) {
         Outcome::Miss(at) => length(b"miss ", at),
         Outcome::Fits(at) => length(b"fits ", at),
         Outcome::Undecided => text(b"undecided"),
+    }
+}
+
+// Writes what the density test said.
+pub(crate) fn density(answer: DensityAnswer) {
+    if answer.refusal != 0 {
+        refused(answer.refusal, answer.place);
+        return;
+    }
+    let told = answer.answer;
+    match told {
+        Reply::Yes => text(b"yes"),
+        Reply::No => text(b"no"),
+        Reply::Unsure => text(b"unsure"),
     }
 }
 

@@ -33,6 +33,14 @@ fn tested(name: &[u8], rows: &[u32], horizon: u32) {
     say::end();
 }
 
+// The density test.
+fn dense(name: &[u8], rows: &[u32], processors: u32) {
+    say::text(name);
+    say::text(b", by densities: ");
+    say::density(density::density(rows, processors));
+    say::end();
+}
+
 // Both writers, into space that 65 rows would fit.
 fn written(name: &[u8], rows: &[u32], processors: u32) {
     let mut out = [0u8; 1372];
@@ -51,6 +59,7 @@ fn every_entry(name: &[u8], rows: &[u32], processors: u32, bounds: &[u32], row: 
     one_row(name, rows, processors, bounds, row);
     refined(name, rows, processors);
     tested(name, rows, horizon);
+    dense(name, rows, processors);
     written(name, rows, processors);
 }
 

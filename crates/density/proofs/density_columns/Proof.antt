@@ -3,7 +3,6 @@ use mathlib.Core.Path.{_≡_, refl, sym, _∙_, ap}
 use native.Mathlib.Omega.{arith}
 use borrow.Author.Needs.{needs}
 use denote.Ref.{now}
-use lib.ListN.{length}
 use Rattle.model.specs.Sheet.{columns}
 use Rattle.model.proofs.Sheet.{few-rows}
 use Rattle.rows.specs.declared.Refusal.{Refusal}

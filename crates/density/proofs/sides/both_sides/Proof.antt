@@ -1,16 +1,15 @@
 -- `density::sides::both_sides` meets its contract. The loop's invariant: both sides hold the densities of the rows passed.
 use borrow.Author.Needs.{needs}
 use mathlib.Core.Path.{_≡_, _∙_, ap, ap₂}
-use Prim.Native.Nat.{_-_, _/_, _≤_, _<_}
+use Prim.Native.Nat.{_-_, _/_, _≤_}
 use native.Mathlib.Omega.{arith}
-use denote.Ref.{now}
-use Rattle.model.specs.Sheet.{Sheet, columns}
+use Rattle.model.specs.Sheet.{columns}
 use Rattle.model.specs.Demand.{ceiling}
 use Rattle.model.specs.Density.{rounded, roundedUp, roundedDown}
 use Rattle.model.proofs.Rounding.{floor-rounds, ceiling-rounds}
 use Rattle.quick_look.specs.declared.Side.{Side}
 use Rattle.quick_look.specs.declared.Sides.{Sides}
-use Rattle.quick_look.specs.Inner.{sideOf, sidesOf, Counted}
+use Rattle.quick_look.specs.Inner.{sideOf, sidesOf}
 use Rattle.quick_look.proofs.Summed.{side-none, side-more, all-passed, row-whole, row-small, side-small}
 use Rattle.density.proofs.sides.both_sides.Statement.{statement}
 use Rattle.density.proofs.sides.both_sides.Tie as tie

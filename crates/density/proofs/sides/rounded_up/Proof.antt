@@ -1,7 +1,7 @@
 -- `density::sides::rounded_up` meets its contract: rounded up is one more than rounded down exactly where a rest is left.
 use borrow.Author.Needs.{needs}
-use mathlib.Core.Path.{_≡_, _∙_, ap}
-use Prim.Native.Nat.{ℕ, _+_, _*_, _/_, _≤_, _<_}
+use mathlib.Core.Path.{_∙_, ap}
+use Prim.Native.Nat.{ℕ, _+_, _*_, _≤_}
 use native.Mathlib.Nat.{div-mul-le-self, div-le-self}
 use native.Mathlib.Omega.{arith}
 use Rattle.model.specs.Density.{billion}
