@@ -168,24 +168,26 @@ module _ (s : Sheet) (p : ℕ) (x : ℕ → ℕ) (exact : Exact s p x) (whole : 
     pub density-says : Says m p x (s .rows) (density s m)
     density-says = says (density s m) (density-means s m)
 
--- Which denominator is taken does not matter: over another one the same test is met.
-pub any-denominator : (s : Sheet) (p q : ℕ) (x y : ℕ → ℕ) → Exact s p x → Exact s q y → ((i : ℕ) → i < s .rows → 1 ≤ s .deadline i)
-    → (m : ℕ) → Meets m p x (s .rows) → Meets m q y (s .rows)
-any-denominator s p q x y exact other whole m meets-it =
-    let n = s .rows in
-    let same : (i : ℕ) → i < n → y i * p ≡ x i * q =
-    λ i here.
-    eq-of-mul-eq-mul-right (s .deadline i) (whole i here) (y i * p) (x i * q)
-    (mul-right-comm (y i) p (s .deadline i)
-    ∙ ap (λ (product : ℕ). product * p) (other .each i here)
-    ∙ mul-right-comm (s .cost i) q p
-    ∙ ap (λ (product : ℕ). product * q) (sym (exact .each i here))
-    ∙ mul-right-comm (x i) (s .deadline i) q) in
-    let sides : leftSide m y n * p ≡ leftSide m x n * q =
-    sym (left-side-scaled m y p n) ∙ left-side-same m (λ i. y i * p) (λ i. x i * q) n same ∙ left-side-scaled m x q n in
-    le-of-mul-le-mul-right
-    (le-trans (le-of-eq sides) (le-trans (mul-le-mul-right q meets-it) (le-of-eq (mul-right-comm m p q))))
-    (exact .positive)
+-- Which common denominator is taken does not matter: over another one the left side is the same fraction, and the same test is met.
+module _ (s : Sheet) (p q : ℕ) (x y : ℕ → ℕ) (exact : Exact s p x) (other : Exact s q y) (whole : (i : ℕ) → i < s .rows → 1 ≤ s .deadline i) where
+  pub same-fraction : (m : ℕ) → leftSide m y (s .rows) * p ≡ leftSide m x (s .rows) * q
+  same-fraction m =
+      let n = s .rows in
+      let same : (i : ℕ) → i < n → y i * p ≡ x i * q =
+      λ i here.
+      eq-of-mul-eq-mul-right (s .deadline i) (whole i here) (y i * p) (x i * q)
+      (mul-right-comm (y i) p (s .deadline i)
+      ∙ ap (λ (product : ℕ). product * p) (other .each i here)
+      ∙ mul-right-comm (s .cost i) q p
+      ∙ ap (λ (product : ℕ). product * q) (sym (exact .each i here))
+      ∙ mul-right-comm (x i) (s .deadline i) q) in
+      sym (left-side-scaled m y p n) ∙ left-side-same m (λ i. y i * p) (λ i. x i * q) n same ∙ left-side-scaled m x q n
+
+  pub any-denominator : (m : ℕ) → Meets m p x (s .rows) → Meets m q y (s .rows)
+  any-denominator m meets-it =
+      le-of-mul-le-mul-right
+      (le-trans (le-of-eq (same-fraction m)) (le-trans (mul-le-mul-right q meets-it) (le-of-eq (mul-right-comm m p q))))
+      (exact .positive)
 
 -- There is a common denominator: the product of the deadlines is one.
 pub exact-parts : (s : Sheet) → ((i : ℕ) → i < s .rows → 1 ≤ s .deadline i) → Exact s (commonWhole s) (partsOfWhole s)
