@@ -1,5 +1,6 @@
 //! What must hold between answers of one program, whatever they are.
 
+use crate::densities;
 use crate::lent::{in_triples, BY_COLUMNS};
 use crate::trial::Trial;
 use guarded::Seen;
@@ -74,7 +75,7 @@ const OF_ALL_LENGTHS: &[Kind] = &[
 const OFTEN: usize = 25;
 
 /// Every relation.
-pub const RELATIONS: [Relation; 10] = [
+pub const RELATIONS: [Relation; 15] = [
     Relation {
         times: OFTEN,
         ..between(
@@ -109,6 +110,11 @@ pub const RELATIONS: [Relation; 10] = [
         wrong: &[false, true],
         ..between("columns and triples get the same answer", layouts_differ)
     },
+    densities::TRUE,
+    densities::NEAR,
+    densities::IN_ANY_ORDER,
+    densities::NO_WORSE,
+    densities::NO_MISS,
 ];
 
 /// The same sheet asked by another entry, with just the room that its answer takes.
