@@ -76,7 +76,7 @@ fn untrue(trial: Trial, call: &Call, random: &mut Random) -> Option<String> {
         NO => side.is_gt(),
         _ => true,
     };
-    (!holds).then(|| format!("  answer {answer}, and the exact left side is {side:?}"))
+    (!holds).then(|| format!("answer {answer}, and the exact left side is {side:?}"))
 }
 
 /// Unsure as many billionths away from the limit as the rules name, or farther than rounding can reach, or an answer that is none.
@@ -89,12 +89,12 @@ fn unsure_far_away(trial: Trial, call: &Call, random: &mut Random) -> Option<Str
         UNSURE => is_near,
         _ => answer == YES || answer == NO,
     };
-    (!holds).then(|| format!("  answer {answer}, farther away than {}", test.reach()))
+    (!holds).then(|| format!("answer {answer}, farther away than {}", test.reach()))
 }
 
 /// Two answers in words, where they may not be so.
 fn apart(holds: bool, one: u64, what: &str, other: u64) -> Option<String> {
-    (!holds).then(|| format!("  answer {one}; {what} {other}"))
+    (!holds).then(|| format!("answer {one}; {what} {other}"))
 }
 
 /// Another answer to the same rows in another order.

@@ -297,7 +297,7 @@ fn pair_by(engine: Entry) -> Far {
     )
 }
 
-/// Every case far out.
+/// Every case far out, and those of the density test.
 pub fn cases() -> Vec<Far> {
     let by_engine = |engine| vec![crowd_by(engine), uneven_by(engine), pair_by(engine)];
     [

@@ -5,17 +5,13 @@
 //! rounded, come to the limit or to a billionth more were searched for by it.
 
 use crate::cases::{call, density, Case};
+use crate::densities::{NO, UNSURE, YES};
 use crate::far::{asked_of_both, Far};
 use crate::wrong::density_slip;
 use second::call::{Answer, Entry};
 
 /// The largest number that a row may have.
 const MOST: u32 = 1_000_000;
-
-/// The answers' numbers.
-const UNSURE: u64 = 0;
-const YES: u64 = 1;
-const NO: u64 = 2;
 
 /// A case, and the slips by their names that it must show.
 fn showing(case: Case, slips: &[&str]) -> Far {
@@ -52,10 +48,12 @@ fn on_one_processor() -> Vec<Far> {
     ]
 }
 
+/// The largest row and the smallest of the three below.
+const LARGEST: [u32; 3] = [628_318, 999_979, MOST];
+const SMALLEST: [u32; 3] = [141_421, 999_961, MOST];
+
 /// Three rows on two processors with the largest at each place, in the same four ways.
 fn on_two_processors() -> Vec<Far> {
-    let largest = [628_318, 999_979, MOST];
-    let small = [141_421, 999_961, MOST];
     let yes = [600_307, 997_335, 997_335];
     let below = [598_039, 993_567, 993_567];
     let above = [598_479, 994_298, 994_298];
@@ -64,7 +62,7 @@ fn on_two_processors() -> Vec<Far> {
         showing(
             density(
                 "largest first, yes",
-                &[largest, small, yes].concat(),
+                &[LARGEST, SMALLEST, yes].concat(),
                 2,
                 YES,
             ),
@@ -73,7 +71,7 @@ fn on_two_processors() -> Vec<Far> {
         showing(
             density(
                 "largest last, unsure below",
-                &[small, below, largest].concat(),
+                &[SMALLEST, below, LARGEST].concat(),
                 2,
                 UNSURE,
             ),
@@ -85,7 +83,7 @@ fn on_two_processors() -> Vec<Far> {
         showing(
             density(
                 "largest between, unsure above",
-                &[small, largest, above].concat(),
+                &[SMALLEST, LARGEST, above].concat(),
                 2,
                 UNSURE,
             ),
@@ -95,7 +93,7 @@ fn on_two_processors() -> Vec<Far> {
             ],
         ),
         showing(
-            density("largest last, no", &[small, no, largest].concat(), 2, NO),
+            density("largest last, no", &[SMALLEST, no, LARGEST].concat(), 2, NO),
             &[
                 "never takes the last row for the largest",
                 "leaves the largest density out",
@@ -139,7 +137,7 @@ fn on_64_processors() -> Vec<Far> {
     ]
 }
 
-/// Three rows that only the largest density breaks the limit with, wherever it stands, whatever its cost and its deadline are.
+/// Three rows that only the largest density breaks the limit with, wherever it stands.
 fn largest_at_each_place() -> Vec<Far> {
     vec![
         showing(
@@ -163,6 +161,12 @@ fn largest_at_each_place() -> Vec<Far> {
                 "takes the first row for the largest",
             ],
         ),
+    ]
+}
+
+/// Rows in which the largest density is not where the largest cost, the smallest deadline or the shortest period is.
+fn largest_by_no_other_number() -> Vec<Far> {
+    vec![
         showing(
             density(
                 "the largest of small cost",
@@ -197,11 +201,10 @@ fn largest_at_each_place() -> Vec<Far> {
     ]
 }
 
-/// The least left sides and the greatest, and sums past powers of two.
+/// The least left sides and the greatest.
 fn ends() -> Vec<Far> {
     let least = [1, MOST, MOST];
     let full = [MOST; 3];
-    let half = [55, 100, 100];
     vec![
         showing(
             density("the least left side", &least, 1, YES),
@@ -224,6 +227,14 @@ fn ends() -> Vec<Far> {
             density("the greatest on one processor", &full.repeat(64), 1, NO),
             &["says yes throughout"],
         ),
+    ]
+}
+
+/// Sums past powers of two, and equality on the most processors.
+fn sums() -> Vec<Far> {
+    let full = [MOST; 3];
+    let half = [55, 100, 100];
+    vec![
         showing(
             density("a sum past 2^35", &half.repeat(64), 10, NO),
             &["keeps the sum in 32 bits", "keeps the sum in 35 bits"],
@@ -315,7 +326,9 @@ pub fn cases() -> Vec<Far> {
         on_two_processors(),
         on_64_processors(),
         largest_at_each_place(),
+        largest_by_no_other_number(),
         ends(),
+        sums(),
         refusals(),
     ]
     .into_iter()

@@ -56,7 +56,7 @@ const QUICK: &[Kind] = &[
     Kind::Uneven,
 ];
 
-/// Kinds of few rows and of many, of too many and of none.
+/// Kinds of few rows and of many, of too many and of none, and for the density test of rows near its limit.
 const OF_ALL_LENGTHS: &[Kind] = &[
     Kind::Tiny,
     Kind::Middle,
@@ -69,6 +69,7 @@ const OF_ALL_LENGTHS: &[Kind] = &[
     Kind::Large,
     Kind::Late,
     Kind::Crowd,
+    Kind::Balanced,
 ];
 
 /// How many times as often the engines are held together: 100,000 checks and more in the gate's run.

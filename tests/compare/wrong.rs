@@ -23,6 +23,7 @@ mod quick;
 mod related;
 mod taken;
 mod text;
+mod weights;
 
 use crate::cases::Case;
 use crate::far;
@@ -164,7 +165,7 @@ fn shown_by_some() -> Vec<Wrong> {
         in_answers(&BY_COLUMNS, &in_lengths()),
         in_each(&WITH_TEXT, &taken::in_text()),
         in_each(&WITH_ROOM, &taken::in_room()),
-        in_each(&BY_DENSITY, &density::COUNTED),
+        in_each(&BY_DENSITY, &weights::COUNTED),
         in_each(&BY_DENSITY, &density::ROUNDED),
         in_each(&BY_DENSITY, &density::ANSWERED),
         in_each(&BY_DENSITY, &density::REFUSED),
