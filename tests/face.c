@@ -219,6 +219,55 @@ static void one_processor_columns(void) {
         is_outcome(lengths(k), circuitrail_one_processor_columns(COLUMNS_OF(k), 5), LENGTHS[k].refusal, 0, 0, 0);
 }
 
+static void is_density(const char *what, circuitrail_density_answer got, uint32_t refusal, uint32_t place, uint32_t answer) {
+    number(what, "refusal", got.refusal, refusal);
+    number(what, "place", got.place, place);
+    number(what, "answer", got.answer, answer);
+}
+
+static void density(void) {
+    static const uint32_t thirds[9] = {1, 3, 3, 1, 3, 3, 1, 3, 3}, early[6] = {1, 2, 4, 2, 3, 4}, full[3] = {1, 1, 1};
+    called = "circuitrail_density";
+    is_density("S", circuitrail_density(S, 9, 2), 0, 0, CIRCUITRAIL_DENSITY_YES);
+    is_density("S on one processor", circuitrail_density(S, 9, 1), 0, 0, CIRCUITRAIL_DENSITY_NO);
+    is_density("three thirds", circuitrail_density(thirds, 9, 1), 0, 0, CIRCUITRAIL_DENSITY_UNSURE);
+    is_density("rows due early", circuitrail_density(early, 6, 1), 0, 0, CIRCUITRAIL_DENSITY_NO);
+    is_density("a full row on 64 processors", circuitrail_density(full, 3, 64), 0, 0, CIRCUITRAIL_DENSITY_YES);
+    is_density("no processor", circuitrail_density(S, 9, 0), CIRCUITRAIL_REFUSED_PROCESSORS, 0, 0);
+    is_density("65 processors", circuitrail_density(S, 9, 65), CIRCUITRAIL_REFUSED_PROCESSORS, 0, 0);
+    is_density("row without cost", circuitrail_density(COSTLESS, 9, 2), CIRCUITRAIL_REFUSED_ROW, 1, 0);
+    is_density("no whole rows", circuitrail_density(S, 8, 2), CIRCUITRAIL_REFUSED_NO_ROWS, 0, 0);
+    is_density("no words", circuitrail_density(NULL, 0, 2), CIRCUITRAIL_REFUSED_NO_ROWS, 0, 0);
+}
+
+static void density_columns(void) {
+    static const uint32_t ones[3] = {1, 1, 1}, threes[3] = {3, 3, 3};
+    called = "circuitrail_density_columns";
+    is_density("S", circuitrail_density_columns(S_COLUMNS, 2), 0, 0, CIRCUITRAIL_DENSITY_YES);
+    is_density("S on one processor", circuitrail_density_columns(S_COLUMNS, 1), 0, 0, CIRCUITRAIL_DENSITY_NO);
+    is_density("three thirds", circuitrail_density_columns(ones, 3, threes, 3, threes, 3, 1), 0, 0, CIRCUITRAIL_DENSITY_UNSURE);
+    is_density("rows due early", circuitrail_density_columns(EARLY_COLUMNS, 1), 0, 0, CIRCUITRAIL_DENSITY_NO);
+    is_density("a full row on 64 processors", circuitrail_density_columns(ones, 1, ones, 1, ones, 1, 64), 0, 0, CIRCUITRAIL_DENSITY_YES);
+    is_density("no processor", circuitrail_density_columns(S_COLUMNS, 0), CIRCUITRAIL_REFUSED_PROCESSORS, 0, 0);
+    is_density("65 processors", circuitrail_density_columns(S_COLUMNS, 65), CIRCUITRAIL_REFUSED_PROCESSORS, 0, 0);
+    is_density("row without cost", circuitrail_density_columns(COSTLESS_COLUMNS, 2), CIRCUITRAIL_REFUSED_ROW, 1, 0);
+    for (size_t k = 0; k < REFUSED_LENGTHS; k++)
+        is_density(lengths(k), circuitrail_density_columns(COLUMNS_OF(k), 2), LENGTHS[k].refusal, 0, 0);
+}
+
+/* With 64 rows that fill their deadlines the left side is the greatest that there is; in 36 bits it would be below the limit. */
+static void density_most_rows(void) {
+    uint32_t words[3 * CIRCUITRAIL_MOST_ROWS], column[CIRCUITRAIL_MOST_ROWS];
+    for (size_t k = 0; k < 3 * CIRCUITRAIL_MOST_ROWS; k++)
+        words[k] = 1000000;
+    for (size_t k = 0; k < CIRCUITRAIL_MOST_ROWS; k++)
+        column[k] = 1000000;
+    called = "circuitrail_density";
+    is_density("64 rows", circuitrail_density(words, 192, 64), 0, 0, CIRCUITRAIL_DENSITY_NO);
+    called = "circuitrail_density_columns";
+    is_density("64 rows", circuitrail_density_columns(column, 64, column, 64, column, 64, 64), 0, 0, CIRCUITRAIL_DENSITY_NO);
+}
+
 /* The README's example of a sheet that RTA does not accept on one processor, and that fits there by the exact test. */
 static void not_accepted_and_fits(void) {
     static const uint32_t full[6] = {2, 4, 4, 3, 6, 6}, deadlines[2] = {4, 6};
@@ -350,6 +399,9 @@ int main(void) {
     refine_most_columns("circuitrail_refine_at_once_columns", circuitrail_refine_at_once_columns);
     one_processor();
     one_processor_columns();
+    density();
+    density_columns();
+    density_most_rows();
     not_accepted_and_fits();
     read_sheet();
     write_sheet();

@@ -33,6 +33,14 @@ struct Outcome {
 
 #[repr(C)]
 #[derive(Debug, PartialEq)]
+struct DensityAnswer {
+    refusal: u32,
+    place: u32,
+    answer: u32,
+}
+
+#[repr(C)]
+#[derive(Debug, PartialEq)]
 struct Read {
     refusal: u32,
     place: u32,
@@ -91,10 +99,19 @@ extern "C" {
         costs: *const u32, costs_length: usize, deadlines: *const u32, deadlines_length: usize, periods: *const u32, periods_length: usize,
         processors: u32, method: u32, out: *mut u8, out_length: usize,
     ) -> Written;
+    fn circuitrail_density(words: *const u32, words_length: usize, processors: u32) -> DensityAnswer;
+    fn circuitrail_density_columns(
+        costs: *const u32, costs_length: usize, deadlines: *const u32, deadlines_length: usize, periods: *const u32, periods_length: usize,
+        processors: u32,
+    ) -> DensityAnswer;
 }
 
 const BCL: u32 = 0;
 const RTA: u32 = 1;
+
+const UNSURE: u32 = 0;
+const YES: u32 = 1;
+const NO: u32 = 2;
 
 // Case S: its words, its sheet, and its result sheet by RTA on two processors.
 const S: [u32; 9] = [2, 5, 5, 2, 5, 5, 3, 6, 6];
@@ -277,6 +294,46 @@ fn one_processor_columns(tally: &mut Tally) {
     tally.same("one processor of columns, null columns", without_columns, is(2, 0, 0, 0));
 }
 
+fn density(tally: &mut Tally) {
+    let ask = |words: &[u32], processors: u32| unsafe { circuitrail_density(words.as_ptr(), words.len(), processors) };
+    let is = |refusal, place, answer| DensityAnswer { refusal, place, answer };
+    tally.same("density, S", ask(&S, 2), is(0, 0, YES));
+    tally.same("density, S on one processor", ask(&S, 1), is(0, 0, NO));
+    tally.same("density, three thirds", ask(&[1, 3, 3].repeat(3), 1), is(0, 0, UNSURE));
+    tally.same("density, rows due early", ask(&[1, 2, 4, 2, 3, 4], 1), is(0, 0, NO));
+    tally.same("density, a full row on 64 processors", ask(&[1; 3], 64), is(0, 0, YES));
+    tally.same("density, 64 rows", ask(&[1_000_000; 192], 64), is(0, 0, NO));
+    tally.same("density, no processor", ask(&S, 0), is(4, 0, 0));
+    tally.same("density, 65 processors", ask(&S, 65), is(4, 0, 0));
+    tally.same("density, row without cost", ask(&COSTLESS, 2), is(8, 1, 0));
+    tally.same("density, no whole rows", ask(&S[..8], 2), is(2, 0, 0));
+    tally.same("density, no words", ask(&[], 2), is(2, 0, 0));
+    tally.same("density, null words", unsafe { circuitrail_density(null(), 0, 2) }, is(2, 0, 0));
+}
+
+fn density_columns(tally: &mut Tally) {
+    let ask = |[costs, deadlines, periods]: Columns, processors: u32| unsafe {
+        circuitrail_density_columns(
+            costs.as_ptr(), costs.len(), deadlines.as_ptr(), deadlines.len(), periods.as_ptr(), periods.len(), processors,
+        )
+    };
+    let is = |refusal, place, answer| DensityAnswer { refusal, place, answer };
+    tally.same("density of columns, S", ask(S_COLUMNS, 2), is(0, 0, YES));
+    tally.same("density of columns, S on one processor", ask(S_COLUMNS, 1), is(0, 0, NO));
+    tally.same("density of columns, three thirds", ask([&[1; 3], &[3; 3], &[3; 3]], 1), is(0, 0, UNSURE));
+    tally.same("density of columns, rows due early", ask(EARLY_COLUMNS, 1), is(0, 0, NO));
+    tally.same("density of columns, a full row on 64 processors", ask([&[1]; 3], 64), is(0, 0, YES));
+    tally.same("density of columns, 64 rows", ask([&[1_000_000; 64]; 3], 64), is(0, 0, NO));
+    tally.same("density of columns, no processor", ask(S_COLUMNS, 0), is(4, 0, 0));
+    tally.same("density of columns, 65 processors", ask(S_COLUMNS, 65), is(4, 0, 0));
+    tally.same("density of columns, row without cost", ask(COSTLESS_COLUMNS, 2), is(8, 1, 0));
+    for (lengths, columns, refusal) in refused_columns() {
+        tally.same(&format!("density, {lengths}"), ask(columns, 2), is(refusal, 0, 0));
+    }
+    let without_columns = unsafe { circuitrail_density_columns(null(), 0, null(), 0, null(), 0, 2) };
+    tally.same("density of columns, null columns", without_columns, is(2, 0, 0));
+}
+
 fn read_sheet(tally: &mut Tally) {
     let ask = |bytes: &[u8], words: &mut [u32]| unsafe {
         circuitrail_read_sheet(bytes.as_ptr(), bytes.len(), words.as_mut_ptr(), words.len())
@@ -406,6 +463,8 @@ pub extern "C" fn main() -> i32 {
     }
     one_processor(&mut tally);
     one_processor_columns(&mut tally);
+    density(&mut tally);
+    density_columns(&mut tally);
     read_sheet(&mut tally);
     write_sheet(&mut tally);
     write_result(&mut tally);

@@ -92,6 +92,15 @@ static void write_result_columns(void) {
     refusal = circuitrail_write_result_columns(costs, rows, deadlines, rows, periods, rows, processors, method, out, sizeof out).refusal;
 }
 
+static void density(void) {
+    top = __builtin_frame_address(0);
+    refusal = circuitrail_density(words, words_length, processors).refusal;
+}
+static void density_columns(void) {
+    top = __builtin_frame_address(0);
+    refusal = circuitrail_density_columns(costs, rows, deadlines, rows, periods, rows, processors).refusal;
+}
+
 /* A function that takes as much as no function may, which the measurement must see. */
 static void take_too_much(void) {
     volatile unsigned char taken[CIRCUITRAIL_STACK_BYTES];
@@ -140,6 +149,8 @@ static struct {
     {"circuitrail_refine_at_once_columns", refine_at_once_columns, 0},
     {"circuitrail_one_processor_columns", one_processor_columns, 0},
     {"circuitrail_write_result_columns", write_result_columns, 0},
+    {"circuitrail_density", density, 0},
+    {"circuitrail_density_columns", density_columns, 0},
 };
 enum { FUNCTIONS = sizeof measured / sizeof *measured };
 

@@ -26,11 +26,19 @@ pub fn right_call(entry: Entry, kind: Kind, random: &mut Random) -> Call {
         } else {
             1
         },
-        text: sheet_text(&DOCUMENT, processors, &words_of(&drawn.rows)).into_bytes(),
+        text: text_for(question, &drawn),
         room: room_needed(question, drawn.rows.len()) + random.one_of(&[0, 0, 0, 1, 5]),
         ..Call::of(entry)
     };
     with_rows(call, &drawn.rows)
+}
+
+/// The sheet's text; none for the density test, whose calls are many and have no use for it.
+fn text_for(entry: Entry, sheet: &Sheet) -> Vec<u8> {
+    if entry == Entry::Density {
+        return Vec::new();
+    }
+    sheet_text(&DOCUMENT, sheet.processors as u32, &words_of(&sheet.rows)).into_bytes()
 }
 
 /// How many terms of sums are few enough to be tried value by value: in a pass, and for one row, which is asked only once; often,

@@ -115,6 +115,19 @@ pub fn one_processor(
     }
 }
 
+/// A density case: answer 0 unsure, 1 yes, 2 no.
+pub fn density(name: &'static str, words: &[u32], processors: u32, answer: u64) -> Case {
+    let due = Answer {
+        numbers: vec![0, 0, answer],
+        ..Answer::default()
+    };
+    Case {
+        name,
+        call: call(Entry::Density, words, processors),
+        due,
+    }
+}
+
 /// A refining case.
 pub fn refined(
     name: &'static str,

@@ -6,6 +6,7 @@
 //! goes from deadline to deadline with a running sum, and that climbs to the busy length. Both gave the same.
 
 use crate::cases::{one_processor, one_row, refined, Case};
+use crate::hinges;
 use crate::threads::of_each;
 use crate::wrong::{
     begun_quotient, busy_climb, busy_sum, clean_horizon, deadline_search, demand_product,
@@ -32,7 +33,7 @@ pub struct Far {
 }
 
 /// A case that the second program answers soon enough.
-fn asked_of_both(case: Case, slips: &[Slip]) -> Far {
+pub fn asked_of_both(case: Case, slips: &[Slip]) -> Far {
     Far {
         case,
         second_asked: true,
@@ -296,7 +297,7 @@ fn pair_by(engine: Entry) -> Far {
     )
 }
 
-/// Every case far out.
+/// Every case far out, and those of the density test.
 pub fn cases() -> Vec<Far> {
     let by_engine = |engine| vec![crowd_by(engine), uneven_by(engine), pair_by(engine)];
     [
@@ -306,6 +307,7 @@ pub fn cases() -> Vec<Far> {
         windows(),
         by_engine(Entry::RefineRounds),
         by_engine(Entry::RefineAtOnce),
+        hinges::cases(),
     ]
     .into_iter()
     .flatten()

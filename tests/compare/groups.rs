@@ -28,7 +28,7 @@ pub struct Group {
 }
 
 /// Every entry, by its name in words.
-pub const ENTRIES: [(Entry, &str); 13] = [
+pub const ENTRIES: [(Entry, &str); 15] = [
     (Entry::OneRow, "one row"),
     (Entry::RefineRounds, "refine in rounds"),
     (Entry::RefineAtOnce, "refine at once"),
@@ -42,10 +42,12 @@ pub const ENTRIES: [(Entry, &str); 13] = [
     (Entry::RefineAtOnceColumns, "columns: refine at once"),
     (Entry::OneProcessorColumns, "columns: one processor"),
     (Entry::WriteResultColumns, "columns: write a result sheet"),
+    (Entry::Density, "density"),
+    (Entry::DensityColumns, "columns: density"),
 ];
 
 /// Every entry.
-pub static EVERY_ENTRY: [Entry; 13] = {
+pub static EVERY_ENTRY: [Entry; 15] = {
     use Entry::*;
     [
         OneRow,
@@ -61,6 +63,8 @@ pub static EVERY_ENTRY: [Entry; 13] = {
         RefineAtOnceColumns,
         OneProcessorColumns,
         WriteResultColumns,
+        Density,
+        DensityColumns,
     ]
 };
 
@@ -90,13 +94,18 @@ fn checks_of_kind(kind: Kind) -> usize {
         Kind::Light | Kind::Heavy | Kind::Large => 3,
         Kind::Brimming => 2,
         Kind::Far | Kind::Late | Kind::Crowd | Kind::Uneven | Kind::Close => 1,
+        Kind::Balanced => 40,
     }
 }
 
 /// The checks of a question on a kind in a round. Rows that leave one processor busy for long are not refined: value by value, two
-/// of them can take days. Where large sums are met, one row is asked about more often than a whole sheet is refined.
+/// of them can take days. Where large sums are met, one row is asked about more often than a whole sheet is refined. Balanced sheets
+/// are for the density test, and it is asked about few others, for it does one thing only.
 fn checks_of_question(entry: Entry, kind: Kind) -> usize {
     match kind {
+        Kind::Balanced if entry != Entry::Density => 0,
+        Kind::Balanced => checks_of_kind(kind),
+        _ if entry == Entry::Density => checks_of_kind(kind).div_ceil(8),
         Kind::Far | Kind::Close if refines(entry) => 0,
         Kind::Brimming | Kind::Crowd | Kind::Uneven if entry == Entry::OneRow => 5,
         Kind::Heavy if refines(entry) => 1,
@@ -106,10 +115,13 @@ fn checks_of_question(entry: Entry, kind: Kind) -> usize {
 
 /// The checks of an entry on a kind in a round, with right numbers or wrong ones. With columns there are fewer than with triples, for
 /// the questions are the same: as many where the row count matters, more with wrong numbers, which are soon refused, and none where
-/// the horizon is long and the second program slow.
+/// the horizon is long and the second program slow. Of balanced sheets more have right numbers: near the limit it is the answer that
+/// counts.
 fn checks_of_entry(entry: Entry, kind: Kind, wrong: bool) -> usize {
     let checks = checks_of_question(entry.question(), kind);
     match (entry.takes_columns(), kind) {
+        (_, Kind::Balanced) if wrong => checks.div_ceil(4),
+        (true, Kind::Balanced) => checks.div_ceil(2),
         (false, _) | (true, Kind::Counts) => checks,
         (true, Kind::Far) => 0,
         (true, _) if wrong => checks.div_ceil(2),

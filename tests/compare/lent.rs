@@ -4,12 +4,13 @@ use second::call::{Call, Columns, Entry};
 use second::rows::{columns_of, words_of, Row};
 
 /// The entries that are lent columns.
-pub const BY_COLUMNS: [Entry; 5] = [
+pub const BY_COLUMNS: [Entry; 6] = [
     Entry::OneRowColumns,
     Entry::RefineRoundsColumns,
     Entry::RefineAtOnceColumns,
     Entry::OneProcessorColumns,
     Entry::WriteResultColumns,
+    Entry::DensityColumns,
 ];
 
 /// The call with these rows.

@@ -7,11 +7,15 @@ mod calls;
 mod cases;
 mod catch;
 mod damage;
+mod densities;
 mod difference;
+mod exact;
 mod far;
 mod groups;
+mod hinges;
 mod lengths;
 mod lent;
+mod natural;
 mod near;
 mod relations;
 mod rounds;
@@ -37,7 +41,7 @@ use std::process::ExitCode;
 use std::sync::atomic::Ordering;
 
 /// How many checks the gate makes.
-const GATE_CASES: u64 = 530_000;
+const GATE_CASES: u64 = 565_000;
 
 /// The gate's seed.
 const GATE_SEED: u64 = 1;

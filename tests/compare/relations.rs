@@ -1,5 +1,6 @@
 //! What must hold between answers of one program, whatever they are.
 
+use crate::densities;
 use crate::lent::{in_triples, BY_COLUMNS};
 use crate::trial::Trial;
 use guarded::Seen;
@@ -55,7 +56,7 @@ const QUICK: &[Kind] = &[
     Kind::Uneven,
 ];
 
-/// Kinds of few rows and of many, of too many and of none.
+/// Kinds of few rows and of many, of too many and of none, and for the density test of rows near its limit.
 const OF_ALL_LENGTHS: &[Kind] = &[
     Kind::Tiny,
     Kind::Middle,
@@ -68,13 +69,14 @@ const OF_ALL_LENGTHS: &[Kind] = &[
     Kind::Large,
     Kind::Late,
     Kind::Crowd,
+    Kind::Balanced,
 ];
 
 /// How many times as often the engines are held together: 100,000 checks and more in the gate's run.
 const OFTEN: usize = 25;
 
 /// Every relation.
-pub const RELATIONS: [Relation; 10] = [
+pub const RELATIONS: [Relation; 15] = [
     Relation {
         times: OFTEN,
         ..between(
@@ -109,6 +111,11 @@ pub const RELATIONS: [Relation; 10] = [
         wrong: &[false, true],
         ..between("columns and triples get the same answer", layouts_differ)
     },
+    densities::TRUE,
+    densities::NEAR,
+    densities::IN_ANY_ORDER,
+    densities::NO_WORSE,
+    densities::NO_MISS,
 ];
 
 /// The same sheet asked by another entry, with just the room that its answer takes.

@@ -49,6 +49,7 @@ pub fn call_shown(call: &Call) -> String {
             call.row
         ),
         Entry::OneProcessor => format!("{rows}, horizon {}", call.horizon),
+        Entry::Density => format!("{rows}, processors {}", call.processors),
         Entry::WriteSheet => format!("{rows}, processors {}, room {}", call.processors, call.room),
         Entry::ReadSheet | Entry::AnswerSheet => {
             format!("text {}, room {}", text_shown(&call.text), call.room)

@@ -1,10 +1,13 @@
 //! What the calls met, so that a run can tell that it met everything there is to meet.
 
+use crate::densities::{NO, UNSURE, YES};
+use crate::exact::test_of;
 use crate::groups::{entry_name, ENTRIES};
 use crate::lent::row_count;
 use guarded::Seen;
 use second::call::{Call, Entry};
 use second::checks::applying;
+use std::cmp::Ordering;
 use std::collections::BTreeMap;
 use std::sync::Mutex;
 
@@ -39,11 +42,24 @@ pub fn never_met() -> Vec<String> {
     never
 }
 
+/// The kinds of density answers: near is as near to the limit as unsure may be, and even is the limit itself, by exact fractions.
+const DENSITIES: [&str; 8] = [
+    "yes",
+    "yes near below",
+    "yes when even",
+    "unsure below",
+    "unsure when even",
+    "unsure above",
+    "no near above",
+    "no",
+];
+
 /// The kinds of answer that an entry has: what it says where it does not refuse, and each refusal.
 fn kinds_of_answer(entry: Entry) -> Vec<String> {
     let said: &[&str] = match entry.question() {
         Entry::OneRow => &["bound", "none"],
         Entry::OneProcessor => &["undecided", "miss", "fits"],
+        Entry::Density => &DENSITIES,
         Entry::WriteResult | Entry::AnswerSheet => &["accepted", "not accepted"],
         Entry::ReadSheet | Entry::WriteSheet => &["done"],
         _ => &["all marked", "some marked", "none marked"],
@@ -82,12 +98,32 @@ fn kind_of_answer(call: &Call, seen: &Seen) -> String {
         (Entry::OneProcessor, outcome) => {
             ["undecided", "miss", "fits"][outcome as usize % 3].to_string()
         }
+        (Entry::Density, answer) => kind_of_density(call, answer),
         (Entry::WriteResult | Entry::AnswerSheet, _) => kind_of_text(&seen.after),
         (Entry::ReadSheet | Entry::WriteSheet, _) => "done".to_string(),
         (_, 0) => "none marked".to_string(),
         (_, marks) if marks == all => "all marked".to_string(),
         _ => "some marked".to_string(),
     }
+}
+
+/// The kind of a density answer, by where the exact fractions lie.
+fn kind_of_density(call: &Call, answer: u64) -> String {
+    let test = test_of(call);
+    let left = test.left_side();
+    let is_near = test.is_within(&left, test.distance());
+    let kind = match (answer, left.against(test.limit())) {
+        (YES, Ordering::Equal) => "yes when even",
+        (YES, Ordering::Less) if is_near => "yes near below",
+        (YES, _) => "yes",
+        (NO, Ordering::Greater) if is_near => "no near above",
+        (NO, _) => "no",
+        (UNSURE, Ordering::Less) => "unsure below",
+        (UNSURE, Ordering::Equal) => "unsure when even",
+        (UNSURE, Ordering::Greater) => "unsure above",
+        _ => "no answer",
+    };
+    kind.to_string()
 }
 
 /// The kind of a result sheet or of a line that tells a refusal.

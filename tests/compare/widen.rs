@@ -13,7 +13,7 @@ fn numbers_of(entry: Entry) -> &'static [Widen] {
     match entry.question() {
         Entry::OneRow => &[widened_word, bound, row_number, processors, method],
         Entry::OneProcessor => &[widened_word, horizon],
-        Entry::WriteSheet => &[widened_word, processors],
+        Entry::WriteSheet | Entry::Density => &[widened_word, processors],
         _ => &[widened_word, processors, method],
     }
 }
@@ -69,8 +69,8 @@ fn lengths_of(entry: Entry) -> &'static [Lengthen] {
     match entry {
         Entry::OneRow => &[words_behind, bounds_behind],
         Entry::OneRowColumns => &[columns_behind, columns_behind, bounds_behind],
-        Entry::OneProcessor => &[words_behind],
-        Entry::OneProcessorColumns => &[columns_behind],
+        Entry::OneProcessor | Entry::Density => &[words_behind],
+        Entry::OneProcessorColumns | Entry::DensityColumns => &[columns_behind],
         Entry::ReadSheet | Entry::AnswerSheet => &[text_behind, room],
         entry if entry.takes_columns() => &[columns_behind, columns_behind, room],
         _ => &[words_behind, room],

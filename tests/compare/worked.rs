@@ -1,6 +1,6 @@
-//! The scope document's numbers worked by hand, of the proved program and of the second one.
+//! The documents' numbers worked by hand, of the proved program and of the second one.
 
-use crate::cases::{call, one_processor, one_row, refined, written, Case};
+use crate::cases::{call, density, one_processor, one_row, refined, written, Case};
 use second::call::{Answer, Call, Entry};
 use second::program::DOCUMENT;
 use second::random::Random;
@@ -43,6 +43,19 @@ fn processor_cases() -> Vec<Case> {
             2,
             150_300,
         ),
+    ]
+}
+
+/// The density test: the document's numbers, and equality on one processor and on 64.
+fn density_cases() -> Vec<Case> {
+    let full = [1, 1, 1];
+    vec![
+        density("densities of S", &S, 2, 1),
+        density("three thirds", &[1, 3, 3].repeat(3), 1, 0),
+        density("two halves", &[1, 2, 2].repeat(2), 1, 1),
+        density("a full row", &full, 1, 1),
+        density("a full row on 64 processors", &full, 64, 1),
+        density("64 full rows on 64 processors", &full.repeat(64), 64, 2),
     ]
 }
 
@@ -120,7 +133,14 @@ fn text_cases() -> Vec<Case> {
 
 /// Every case, with its rows in triples and, where an entry takes them so, in columns.
 pub fn cases() -> Vec<Case> {
-    let triples = [row_cases(), processor_cases(), sheet_cases(), text_cases()].concat();
+    let triples = [
+        row_cases(),
+        processor_cases(),
+        density_cases(),
+        sheet_cases(),
+        text_cases(),
+    ]
+    .concat();
     let columns: Vec<Case> = triples.iter().filter_map(Case::in_columns).collect();
     [triples, columns].concat()
 }

@@ -15,6 +15,7 @@ mod analysis;
 mod checks;
 mod columns;
 mod demand;
+mod density;
 mod given_up;
 mod late;
 mod narrow;
@@ -22,6 +23,7 @@ mod quick;
 mod related;
 mod taken;
 mod text;
+mod weights;
 
 use crate::cases::Case;
 use crate::far;
@@ -29,6 +31,7 @@ use crate::groups::EVERY_ENTRY;
 use crate::lent::BY_COLUMNS;
 use crate::relations::RELATIONS;
 pub use demand::clean_horizon;
+pub use density::named as density_slip;
 pub use given_up::{busy_climb, deadline_search, passes};
 pub use narrow::{
     begun_quotient, busy_sum, demand_product, demand_quotient, demand_sum, quick_rta_sum, rta_part,
@@ -84,14 +87,18 @@ fn in_each(entries: &'static [Entry], slips: &[Slip]) -> Vec<Wrong> {
 const REFINING: [Entry; 3] = [Entry::RefineRounds, Entry::RefineAtOnce, Entry::WriteResult];
 
 /// The entries that are given triples.
-const WITH_WORDS: [Entry; 6] = [
+const WITH_WORDS: [Entry; 7] = [
     Entry::OneRow,
     Entry::RefineRounds,
     Entry::RefineAtOnce,
     Entry::OneProcessor,
     Entry::WriteSheet,
     Entry::WriteResult,
+    Entry::Density,
 ];
+
+/// The entries that answer by densities.
+const BY_DENSITY: [Entry; 2] = [Entry::Density, Entry::DensityColumns];
 
 /// The entries that are given a text.
 const WITH_TEXT: [Entry; 2] = [Entry::ReadSheet, Entry::AnswerSheet];
@@ -158,15 +165,21 @@ fn shown_by_some() -> Vec<Wrong> {
         in_answers(&BY_COLUMNS, &in_lengths()),
         in_each(&WITH_TEXT, &taken::in_text()),
         in_each(&WITH_ROOM, &taken::in_room()),
+        in_each(&BY_DENSITY, &weights::COUNTED),
+        in_each(&BY_DENSITY, &density::ROUNDED),
+        in_each(&BY_DENSITY, &density::ANSWERED),
+        in_each(&BY_DENSITY, &density::REFUSED),
+        in_answers(&BY_DENSITY, &density::narrow()),
     ];
     lists.into_iter().flatten().collect()
 }
 
 /// Every wrong program: of each relation, each entry that reads texts or columns, and each fixed case at least one.
 pub fn wrong_programs() -> Vec<Wrong> {
-    let relations = RELATIONS
-        .iter()
-        .map(|relation| with(related::slip(relation.name), By::Relation(relation.name)));
+    let relations = RELATIONS.iter().flat_map(|relation| {
+        let shown = |slip| with(slip, By::Relation(relation.name));
+        related::slips(relation.name).into_iter().map(shown)
+    });
     let texts = WITH_TEXT
         .into_iter()
         .flat_map(|entry| text::NEAR.map(|slip| with(slip, By::NearTexts(entry))));

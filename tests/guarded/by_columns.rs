@@ -5,8 +5,32 @@ use crate::lent::Lent;
 use crate::made::Inputs;
 use second::call::{Call, Entry};
 
+/// A call of the density test.
+fn density(call: &Call, inputs: &mut Inputs) -> Vec<u64> {
+    let [costs, deadlines, periods] = &mut inputs.columns;
+    let (costs, costs_length) = costs.pointer_and_length();
+    let (deadlines, deadlines_length) = deadlines.pointer_and_length();
+    let (periods, periods_length) = periods.pointer_and_length();
+    // SAFETY: each pointer is to as many elements as its length says, and they live past the call.
+    unsafe {
+        circuitrail_density_columns(
+            costs,
+            costs_length,
+            deadlines,
+            deadlines_length,
+            periods,
+            periods_length,
+            call.processors,
+        )
+        .into()
+    }
+}
+
 /// A call of an entry that writes nothing.
 pub fn answered(call: &Call, inputs: &mut Inputs) -> Vec<u64> {
+    if call.entry == Entry::DensityColumns {
+        return density(call, inputs);
+    }
     let [costs, deadlines, periods] = &mut inputs.columns;
     let (costs, costs_length) = costs.pointer_and_length();
     let (deadlines, deadlines_length) = deadlines.pointer_and_length();

@@ -138,6 +138,16 @@ extern "C" {
         text: *mut u8,
         text_length: usize,
     ) -> Three;
+    pub fn circuitrail_density(words: *const u32, words_length: usize, processors: u32) -> Three;
+    pub fn circuitrail_density_columns(
+        costs: *const u32,
+        costs_length: usize,
+        deadlines: *const u32,
+        deadlines_length: usize,
+        periods: *const u32,
+        periods_length: usize,
+        processors: u32,
+    ) -> Three;
 }
 
 impl From<Three> for Vec<u64> {

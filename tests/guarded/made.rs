@@ -42,7 +42,7 @@ pub fn made(call: &Call, random: &mut Random) -> Seen {
     CALLS.fetch_add(1, Ordering::Relaxed);
     let mut inputs = Inputs::lent(call, random);
     match call.entry.question() {
-        Entry::OneRow | Entry::OneProcessor => {
+        Entry::OneRow | Entry::OneProcessor | Entry::Density => {
             let numbers = answered(call, &mut inputs);
             let nothing: Lent<u8> = Lent::new(&[], 0, &mut Random::of([0]));
             seen(numbers, &inputs, &nothing)
@@ -80,6 +80,7 @@ fn answered(call: &Call, inputs: &mut Inputs) -> Vec<u64> {
                 call.row,
             )
             .into(),
+            Entry::Density => circuitrail_density(words, length, call.processors).into(),
             _ => circuitrail_one_processor(words, length, call.horizon).into(),
         }
     }

@@ -6,7 +6,7 @@ use second::random::Random;
 use std::io::{ErrorKind, Read, Result, Write};
 
 /// The entries, by whose places they are told.
-const ENTRIES: [Entry; 13] = [
+const ENTRIES: [Entry; 15] = [
     Entry::OneRow,
     Entry::RefineRounds,
     Entry::RefineAtOnce,
@@ -20,6 +20,8 @@ const ENTRIES: [Entry; 13] = [
     Entry::RefineAtOnceColumns,
     Entry::OneProcessorColumns,
     Entry::WriteResultColumns,
+    Entry::Density,
+    Entry::DensityColumns,
 ];
 
 /// How many bytes a number has.

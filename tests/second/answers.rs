@@ -77,6 +77,7 @@ fn worked_out(program: &Program, call: &Call) -> Answer {
     match call.entry.question() {
         Entry::OneRow => bound_of_row(program, call),
         Entry::OneProcessor => outcome(program, call),
+        Entry::Density => density_answer(program, call),
         Entry::WriteSheet => text(sheet_text(program, call.processors, &call.words)),
         Entry::WriteResult => text(result_sheet(program, call)),
         _ => bounds_and_marks(program, call),
@@ -124,6 +125,12 @@ fn outcome(program: &Program, call: &Call) -> Answer {
         Verdict::Miss(length) => numbers(&[1, length]),
         Verdict::Fits(length) => numbers(&[2, length]),
     }
+}
+
+/// The density test: its answer's number.
+fn density_answer(program: &Program, call: &Call) -> Answer {
+    let answer = (program.density)(program, &sheet_of(program, call));
+    numbers(&[(program.density_number)(answer)])
 }
 
 /// The text of a call as far as any reader goes: of the bytes 0 behind it the first is one too many.

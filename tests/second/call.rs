@@ -17,6 +17,8 @@ pub enum Entry {
     RefineAtOnceColumns,
     OneProcessorColumns,
     WriteResultColumns,
+    Density,
+    DensityColumns,
 }
 
 impl Entry {
@@ -28,6 +30,7 @@ impl Entry {
             Entry::RefineAtOnceColumns => Entry::RefineAtOnce,
             Entry::OneProcessorColumns => Entry::OneProcessor,
             Entry::WriteResultColumns => Entry::WriteResult,
+            Entry::DensityColumns => Entry::Density,
             other => other,
         }
     }

@@ -17,7 +17,7 @@ pub fn applying(entry: Entry) -> &'static [u32] {
         Entry::OneRow => &[2, 3, 4, 5, 8, 9],
         Entry::OneProcessor => &[2, 3, 6, 8],
         Entry::ReadSheet | Entry::WriteSheet => &[2, 3, 4, 7, 8],
-        Entry::AnswerSheet => &[2, 3, 4, 8],
+        Entry::AnswerSheet | Entry::Density => &[2, 3, 4, 8],
         _ => &[2, 3, 4, 5, 7, 8],
     }
 }
@@ -25,7 +25,7 @@ pub fn applying(entry: Entry) -> &'static [u32] {
 /// The words or bytes that an answer about so many rows takes.
 pub fn room_needed(entry: Entry, rows: usize) -> usize {
     match entry.question() {
-        Entry::OneRow | Entry::OneProcessor => 0,
+        Entry::OneRow | Entry::OneProcessor | Entry::Density => 0,
         Entry::ReadSheet => 3 * rows,
         Entry::WriteSheet => 7 + 21 * rows,
         Entry::WriteResult | Entry::AnswerSheet => 7 + 11 * rows,
@@ -128,7 +128,7 @@ fn held(program: &Program, call: &Call, rows: &[Row], number: u32) -> Option<u32
         4 => (program.processors_wrong)(call.processors),
         5 => (program.method_wrong)(call.method),
         6 => (program.horizon_wrong)(call.horizon),
-        7 => call.room < room_needed(call.entry, row_count(program, call)),
+        7 => call.room < (program.room_needed)(call.entry, row_count(program, call)),
         8 => return (program.bad_row)(program, rows).map(|place| place as u32),
         _ => call.behind.bounds > 0 || (program.question_wrong)(rows, &call.bounds, call.row),
     };
@@ -140,6 +140,6 @@ pub fn refusal(program: &Program, call: &Call) -> Option<Refusal> {
     let rows = rows_said(program, call);
     let found =
         |&number: &u32| held(program, call, &rows, number).map(|place| Refusal { number, place });
-    let all = applying(call.entry).iter().filter_map(found);
+    let all = (program.applying)(call.entry).iter().filter_map(found);
     all.min_by_key(|refusal| (program.rank)(refusal.number))
 }

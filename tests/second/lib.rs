@@ -2,11 +2,13 @@
 //!
 //! Wherever there is another way than the proved program's, it is taken here: a sheet is read by splitting its lines,
 //! RTA tries one value after the other, refining takes the rows in a random order, the demand test looks at every length,
-//! and the largest consistent set of a tiny sheet is found by trying every set.
+//! the density test divides as by hand and takes each row in turn for the largest, and the largest consistent set of a tiny sheet
+//! is found by trying every set.
 
 pub mod answers;
 pub mod call;
 pub mod checks;
+pub mod density;
 pub mod interference;
 pub mod largest;
 pub mod one_processor;

@@ -5,10 +5,12 @@
 
 use crate::call::{Answer, Call, Columns, Entry};
 use crate::checks::Refusal;
+use crate::density::{Density, Rounded};
 use crate::one_processor::Verdict;
 use crate::reader::Written;
 use crate::rows::{Row, Sheet};
-use crate::{answers, checks, interference, one_processor, one_row, reader, refine, rows, writer};
+use crate::{answers, checks, density, interference};
+use crate::{one_processor, one_row, reader, refine, rows, writer};
 
 /// A one-row answer by one method.
 type Method = fn(&Program, &Sheet, usize, &[u64]) -> Option<u64>;
@@ -40,10 +42,20 @@ pub struct Program {
     pub jobs_begun: fn(Row, u64) -> u64,
     pub fills: fn(u64, u64) -> bool,
     pub verdict: fn(&Program, &[Row], u64) -> Verdict,
+    pub rounded: fn(Row) -> Rounded,
+    pub weight: fn(&[Row], usize, usize, u128) -> u128,
+    pub left_side: fn(&Program, &Sheet, &[u128], usize) -> u128,
+    pub limit: fn(u128) -> u128,
+    pub meets: fn(u128, u128) -> bool,
+    pub breaks: fn(u128, u128) -> bool,
+    pub density: fn(&Program, &Sheet) -> Density,
+    pub density_number: fn(Density) -> u64,
     pub digit: fn(u8) -> Option<u32>,
     pub read: fn(&Program, &[u8]) -> Result<Written, usize>,
     pub number_text: fn(u64, usize) -> String,
     pub refusal_line: fn(&Program, Refusal) -> String,
+    pub applying: fn(Entry) -> &'static [u32],
+    pub room_needed: fn(Entry, usize) -> usize,
     pub rank: fn(u32) -> u32,
     pub processors_wrong: fn(u32) -> bool,
     pub method_wrong: fn(u32) -> bool,
@@ -80,10 +92,20 @@ pub const DOCUMENT: Program = Program {
     jobs_begun: one_processor::jobs_begun,
     fills: one_processor::fills,
     verdict: one_processor::verdict,
+    rounded: density::rounded,
+    weight: density::weight,
+    left_side: density::left_side,
+    limit: density::limit,
+    meets: density::meets,
+    breaks: density::breaks,
+    density: density::density,
+    density_number: density::density_number,
     digit: reader::digit,
     read: reader::read,
     number_text: writer::number_text,
     refusal_line: writer::refusal_line,
+    applying: checks::applying,
+    room_needed: checks::room_needed,
     rank: checks::rank,
     processors_wrong: checks::processors_wrong,
     method_wrong: checks::method_wrong,

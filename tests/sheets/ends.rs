@@ -41,7 +41,7 @@ pub fn late(random: &mut Random) -> Sheet {
 }
 
 /// Costs that come to a total, none above a limit that leaves some room: each is a part of what is left.
-fn costs_of(random: &mut Random, total: u64, count: u64, limit: u64) -> Vec<u64> {
+pub fn costs_of(random: &mut Random, total: u64, count: u64, limit: u64) -> Vec<u64> {
     let mut left = total;
     let mut costs = Vec::new();
     for others in (0..count).rev() {

@@ -1,6 +1,6 @@
 //! The kinds of sheets.
 
-use crate::{ends, shapes, slow};
+use crate::{balanced, ends, shapes, slow};
 use second::random::Random;
 use second::rows::Sheet;
 
@@ -41,10 +41,12 @@ pub enum Kind {
     Uneven,
     /// Utilisation close to 1, by tiny periods and two long ones: late misses and long busy lengths.
     Close,
+    /// Densities that come to the density test's limit, or miss it by a few billionths on either side.
+    Balanced,
 }
 
 /// Every kind.
-pub const KINDS: [Kind; 17] = [
+pub const KINDS: [Kind; 18] = [
     Kind::Tiny,
     Kind::Middle,
     Kind::Edges,
@@ -62,6 +64,7 @@ pub const KINDS: [Kind; 17] = [
     Kind::Crowd,
     Kind::Uneven,
     Kind::Close,
+    Kind::Balanced,
 ];
 
 /// A random sheet of a kind.
@@ -84,5 +87,6 @@ pub fn sheet(kind: Kind, random: &mut Random) -> Sheet {
         Kind::Crowd => ends::crowd(random),
         Kind::Uneven => ends::uneven(random),
         Kind::Close => ends::close(random),
+        Kind::Balanced => balanced::balanced(random),
     }
 }

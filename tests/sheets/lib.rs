@@ -1,5 +1,6 @@
 //! Random sheets of many shapes, all within the sizes allowed but those that are there for their row count.
 
+mod balanced;
 mod ends;
 pub mod families;
 mod kinds;

@@ -1,7 +1,8 @@
-//! A slip for each relation: a program with it contradicts itself there.
+//! Slips for each relation: a program with one of them contradicts itself there.
 
 use super::analysis::costs;
 use super::columns::taken_from;
+use super::density;
 use super::given_up::passes;
 use super::late::accepted_by_first;
 use super::Slip;
@@ -11,10 +12,15 @@ use second::program::Program;
 use second::reader::{read, Written};
 use second::rows::Sheet;
 
-/// The slip that a relation is to show.
-pub fn slip(relation: &str) -> Slip {
-    let named = SLIPS.iter().find(|(name, _)| *name == relation);
-    named.map_or(("does nothing wrong", |_| {}), |(_, slip)| *slip)
+/// The slips that a relation is to show, one at the least.
+pub fn slips(relation: &str) -> Vec<Slip> {
+    let named = SLIPS.iter().filter(|(name, _)| *name == relation);
+    let mut slips: Vec<Slip> = named.map(|(_, slip)| *slip).collect();
+    slips.extend(density::slips_of(relation));
+    if slips.is_empty() {
+        slips.push(("does nothing wrong", |_| {}));
+    }
+    slips
 }
 
 /// The slips, by the relations that are to show them.
