@@ -46,10 +46,19 @@ fn processor_cases() -> Vec<Case> {
     ]
 }
 
-/// The density test: the document's numbers, and equality on one processor and on 64.
+/// The hoist of README and of `examples`.
+const HOIST: [u32; 24] = [
+    400, 1000, 1000, 400, 1000, 1000, 500, 1000, 2000, 900, 2000, 5000, 1200, 4000, 10000, 300,
+    1000, 2000, 8000, 40000, 40000, 15000, 50000, 100000,
+];
+
+/// The density test: the document's numbers, equality on one processor and on 64, and the two sheets that README names, on which
+/// RTA says otherwise.
 fn density_cases() -> Vec<Case> {
     let full = [1, 1, 1];
     vec![
+        density("densities of the hoist", &HOIST, 4, 2),
+        density("densities that RTA does not accept", &[2, 4, 4, 3, 6, 6], 1, 1),
         density("densities of S", &S, 2, 1),
         density("three thirds", &[1, 3, 3].repeat(3), 1, 0),
         density("two halves", &[1, 2, 2].repeat(2), 1, 1),
