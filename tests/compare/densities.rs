@@ -24,12 +24,8 @@ const fn of_densities(
         kinds: &[
             Kind::Balanced,
             Kind::Tiny,
-            Kind::Middle,
-            Kind::Edges,
-            Kind::Heavy,
-            Kind::Exponential,
             Kind::Full,
-            Kind::Large,
+            Kind::Edges,
             Kind::Crowd,
         ],
         wrong: &[false],

@@ -94,7 +94,7 @@ fn checks_of_kind(kind: Kind) -> usize {
         Kind::Light | Kind::Heavy | Kind::Large => 3,
         Kind::Brimming => 2,
         Kind::Far | Kind::Late | Kind::Crowd | Kind::Uneven | Kind::Close => 1,
-        Kind::Balanced => 40,
+        Kind::Balanced => 32,
     }
 }
 
@@ -130,7 +130,7 @@ fn checks_of_entry(entry: Entry, kind: Kind, wrong: bool) -> usize {
 }
 
 /// The groups that hold entries against the second program.
-pub fn answer_groups() -> Vec<Group> {
+fn answer_groups() -> Vec<Group> {
     let mut groups = Vec::new();
     for (entry, _) in ENTRIES {
         for kind in KINDS {
@@ -148,7 +148,7 @@ pub fn answer_groups() -> Vec<Group> {
 }
 
 /// The groups that hold answers by a relation against each other.
-pub fn groups_of(relation: Relation) -> Vec<Group> {
+fn groups_of(relation: Relation) -> Vec<Group> {
     let mut groups = Vec::new();
     for &entry in relation.entries {
         for &kind in relation.kinds {
@@ -166,9 +166,13 @@ pub fn groups_of(relation: Relation) -> Vec<Group> {
     groups
 }
 
-/// The groups that hold answers against each other, by every relation.
-pub fn relation_groups() -> Vec<Group> {
-    RELATIONS.into_iter().flat_map(groups_of).collect()
+/// Every group. What is drawn hangs on a group's place: those of the density test come last, so that the others draw what they drew
+/// before it was there.
+pub fn every_group() -> Vec<Group> {
+    let relations = RELATIONS.into_iter().flat_map(groups_of);
+    let mut groups: Vec<Group> = answer_groups().into_iter().chain(relations).collect();
+    groups.sort_by_key(|group| group.entry.question() == Entry::Density);
+    groups
 }
 
 impl Group {

@@ -41,7 +41,7 @@ use std::process::ExitCode;
 use std::sync::atomic::Ordering;
 
 /// How many checks the gate makes.
-const GATE_CASES: u64 = 565_000;
+const GATE_CASES: u64 = 560_000;
 
 /// The gate's seed.
 const GATE_SEED: u64 = 1;
@@ -128,7 +128,7 @@ fn main() -> ExitCode {
             return ExitCode::from(2);
         }
     };
-    let all = [groups::answer_groups(), groups::relation_groups()].concat();
+    let all = groups::every_group();
     let (passed, failed) = if asked.wrong {
         catch::catch_all(&all, asked.cases, asked.seed)
     } else {

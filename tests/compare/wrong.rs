@@ -166,8 +166,8 @@ fn shown_by_some() -> Vec<Wrong> {
         in_each(&WITH_TEXT, &taken::in_text()),
         in_each(&WITH_ROOM, &taken::in_room()),
         in_each(&BY_DENSITY, &weights::COUNTED),
-        in_each(&BY_DENSITY, &density::ROUNDED),
-        in_each(&BY_DENSITY, &density::ANSWERED),
+        in_answers(&BY_DENSITY, &density::ROUNDED),
+        in_answers(&BY_DENSITY, &density::ANSWERED),
         in_each(&BY_DENSITY, &density::REFUSED),
         in_answers(&BY_DENSITY, &density::narrow()),
     ];
