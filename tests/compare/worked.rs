@@ -58,7 +58,12 @@ fn density_cases() -> Vec<Case> {
     let full = [1, 1, 1];
     vec![
         density("densities of the hoist", &HOIST, 4, 2),
-        density("densities that RTA does not accept", &[2, 4, 4, 3, 6, 6], 1, 1),
+        density(
+            "densities that RTA does not accept",
+            &[2, 4, 4, 3, 6, 6],
+            1,
+            1,
+        ),
         density("densities of S", &S, 2, 1),
         density("three thirds", &[1, 3, 3].repeat(3), 1, 0),
         density("two halves", &[1, 2, 2].repeat(2), 1, 1),
