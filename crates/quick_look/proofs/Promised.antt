@@ -51,7 +51,7 @@ unfolding densityOf
 density-worked refusal s m none-holds = not-refused _ _ _ none-holds
 
 -- What is worked out means what it should, and nothing else does.
-pub worked-judges : (s : Sheet) (m : ℕ) → Allowed s → 1 ≤ m → Judges s m (replyOf (density s m))
+worked-judges : (s : Sheet) (m : ℕ) → Allowed s → 1 ≤ m → Judges s m (replyOf (density s m))
 worked-judges s m sizes some-processor =
     record {
       in-billionths = rw judgement-back (density-means s m);

@@ -44,7 +44,7 @@ module _ (s : Sheet) (count : ℕ) (given : Counted s count) where
   row-whole i here = deadlines-whole s (given .sizes) i (rw (given .counted) at here)
 
   -- There are few rows.
-  pub few : count ≤ 64
+  few : count ≤ 64
   few = rw (given .counted) (few-rows s (given .sizes))
 
   module _ (rounding : ℕ → ℕ → ℕ) (rounds : Rounding rounding) where
