@@ -10,6 +10,7 @@ pub mod Along
 pub mod Methods
 pub mod Demand
 pub mod Rounding
+pub mod LeftSide
 pub mod Density
 pub mod Alike
 pub mod Numbers
