@@ -12,17 +12,21 @@ ghost use Rattle.verdict.specs.Inner.{RowGiven, jobsWithin, lookOf, Given, Grou
 ghost use Rattle.laws.specs.Sum.{total};
 ghost use Rattle.model.specs.Demand.{demandOf, demand};
 
-// The jobs of a row with deadlines within the length: 0 if the length is below D, else floor((length − D) / T) + 1.
+// The jobs of a row with deadlines within the length: 0 if the length is below D, else floor((length − D) / T) + 1. Below D + T that is 1,
+// and nothing is divided.
 pub fn jobs_within(length: u32, deadline: u32, period: u32) -> u32
     requires { ⌜ 1 ≤ period ⌝ }
     requires { ⌜ length ≤ 16_777_216 ⌝ }
     ensures { λ r. ⌜ r ≡ jobsWithin deadline period length ⌝ }
 {
     if length < deadline {
-        0
-    } else {
-        (length - deadline) / period + 1
+        return 0;
     }
+    let past = length - deadline;
+    if past < period {
+        return 1;
+    }
+    past / period + 1
 }
 
 // Looks at the row at a place in the length. Before its first deadline it has no job due.

@@ -3,7 +3,7 @@ use mathlib.Core.Path.{_≡_, refl, sym, _∙_}
 use mathlib.Core.Bool.{Bool, true, false}
 use mathlib.Core.Logic.{⊎-elim}
 use Prim.Native.Nat.{ℕ, _+_, _*_, _-_, _/_, _≤_, _<_}
-use native.Mathlib.Nat.{le-trans, zero-mul, add-mul, mul-le-mul-left, div-mul-le-self, div-lt-iff-lt-mul, lt-div-mul-add}
+use native.Mathlib.Nat.{le-trans, zero-mul, add-mul, mul-le-mul-left, div-mul-le-self, div-eq-of-lt, div-lt-iff-lt-mul, lt-div-mul-add}
 use native.Mathlib.Omega.{arith}
 use borrow.Author.Tests.{lt-ltb, le-ltb}
 use lib.Dec.{ltb}
@@ -23,6 +23,12 @@ jobs-before d p t early = pick-yes _ _ _ (lt-ltb t d early)
 pub jobs-from : (d p t : ℕ) → d ≤ t → jobsWithin d p t ≡ (t - d) / p + 1
 unfolding jobsWithin
 jobs-from d p t due = pick-no _ _ _ (le-ltb t d due)
+
+-- So below D + T one job is due, and nothing has to be divided.
+pub jobs-once : (d p t : ℕ) → d ≤ t → t < d + p → jobsWithin d p t ≡ 1
+jobs-once d p t due short =
+    let within : t - d < p = omega arith in
+    rw (jobs-from d p t due, div-eq-of-lt within)
 
 -- A row's demand is its jobs, each of its cost.
 pub jobs-demand : (c d p t : ℕ) → rowDemand c d p t ≡ jobsWithin d p t * c
