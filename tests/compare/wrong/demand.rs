@@ -6,7 +6,7 @@ use second::program::{Program, DOCUMENT};
 use second::rows::Row;
 
 /// The slips: what a wrong program does, and the part that is exchanged.
-pub const SLIPS: [Slip; 5] = [
+pub const SLIPS: [Slip; 7] = [
     ("divides a negative t - D toward zero", |program| {
         program.demand = toward_zero
     }),
@@ -18,6 +18,12 @@ pub const SLIPS: [Slip; 5] = [
     }),
     ("has no demand at the deadline itself", |program| {
         program.demand = none_when_due
+    }),
+    ("has one job at D + T still", |program| {
+        program.demand = |row, length| once_until(row, length, row.deadline + row.period)
+    }),
+    ("has one job below D + 2T", |program| {
+        program.demand = |row, length| once_until(row, length, row.deadline + 2 * row.period - 1)
     }),
     ("counts a job too many in a busy length", |program| {
         program.jobs_begun = |row, length| length / row.period + 1
@@ -42,6 +48,15 @@ pub fn clean_horizon(program: &Program, rows: &[Row], horizon: u64) -> Verdict {
 fn none_when_due(row: Row, length: u64) -> u64 {
     if length <= row.deadline {
         0
+    } else {
+        (DOCUMENT.demand)(row, length)
+    }
+}
+
+/// Demand of one job from the deadline on, until a length.
+fn once_until(row: Row, length: u64, last: u64) -> u64 {
+    if row.deadline <= length && length <= last {
+        row.cost
     } else {
         (DOCUMENT.demand)(row, length)
     }
