@@ -31,6 +31,13 @@ pub struct Case {
     pub questions: Vec<Question>,
 }
 
+impl Case {
+    /// Whether it is a case of the one-processor test.
+    pub fn is_one_processor(&self) -> bool {
+        matches!(self.questions[0], Question::OneProcessor { .. })
+    }
+}
+
 /// The largest horizon.
 pub const HORIZON: u32 = 16_777_216;
 

@@ -1,13 +1,16 @@
 //! Measures the proved program against the same methods in Rust, and writes docs/BENCHMARKS.md to its output.
 //!
-//! speed          times and instructions of every case
-//! speed short    the first table alone
-//! speed N SIDE   answers case N by a side once, for the instruction counter
+//! speed            times and instructions of every case, and divisions
+//! speed short      the first table alone
+//! speed divisions  the section on divisions alone
+//! speed N SIDE     answers case N by a side once, for the instruction counter
 
 mod agreement;
 mod cases;
 mod clock;
 mod counting;
+mod divide;
+mod divisions;
 mod lengths;
 mod plain;
 mod quick;
@@ -46,6 +49,7 @@ fn main() {
             println!("{}", sides::measured(&cases[index], side_named(side)));
         }
         [_, word] if word == "short" => report::print_short(),
+        [_, word] if word == "divisions" => print!("{}", divisions::section()),
         _ => print!("{}", report::report()),
     }
 }

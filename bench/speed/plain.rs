@@ -2,6 +2,8 @@
 //! cost, the demand test from deadline to deadline up to the busy length. Inputs are checked as in the proved program, but a
 //! refusal is only 0.
 
+use crate::divide::{Divide, Quiet};
+
 /// Whether rows are within the sizes allowed.
 fn rows_allowed(words: &[u32]) -> bool {
     let allowed =
@@ -183,12 +185,12 @@ pub fn refine_rounds(words: &[u32], processors: u32, method: u32, bounds: &mut [
 }
 
 /// The busy length up to a horizon, by climbing from 1.
-pub fn busy_length(words: &[u32], horizon: u32) -> Option<u32> {
+pub fn busy_length<D: Divide>(words: &[u32], horizon: u32) -> Option<u32> {
     let mut length: u32 = 1;
     loop {
         let next = words
             .chunks_exact(3)
-            .map(|row| length.div_ceil(row[2]) * row[0])
+            .map(|row| D::begun(length, row[2]) * row[0])
             .sum();
         if next == length {
             return Some(length);
@@ -200,15 +202,25 @@ pub fn busy_length(words: &[u32], horizon: u32) -> Option<u32> {
     }
 }
 
+/// The whole periods in a time. Below one period there is none, and no division is needed.
+pub fn whole_periods<D: Divide>(time: u32, period: u32) -> u32 {
+    if time < period {
+        D::spared();
+        0
+    } else {
+        D::whole(time, period)
+    }
+}
+
 /// The demand in a length, and the first deadline after it.
-pub fn demand_and_next(words: &[u32], length: u32) -> (u32, u32) {
+pub fn demand_and_next<D: Divide>(words: &[u32], length: u32) -> (u32, u32) {
     let (mut demand, mut next) = (0, u32::MAX);
     for row in words.chunks_exact(3) {
         let (cost, deadline, period) = (row[0], row[1], row[2]);
         let jobs = if length < deadline {
             0
         } else {
-            (length - deadline) / period + 1
+            whole_periods::<D>(length - deadline, period) + 1
         };
         demand += jobs * cost;
         next = next.min(deadline + jobs * period);
@@ -221,11 +233,11 @@ pub fn one_processor(words: &[u32], horizon: u32) -> (u32, u32) {
     if !demand_test_allowed(words, horizon) {
         return (0, 0);
     }
-    let busy = busy_length(words, horizon);
+    let busy = busy_length::<Quiet>(words, horizon);
     let last = busy.unwrap_or(horizon);
     let mut length = 1;
     while length <= last {
-        let (demand, next) = demand_and_next(words, length);
+        let (demand, next) = demand_and_next::<Quiet>(words, length);
         if demand > length {
             return (1, length);
         }

@@ -7,7 +7,7 @@ mod demand;
 mod others;
 mod ray;
 
-pub use demand::one_processor;
+pub use demand::{one_processor, one_processor_by};
 
 use crate::plain::{refining_allowed, start};
 use climb::least_solution;

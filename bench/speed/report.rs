@@ -1,8 +1,9 @@
 //! The report: tables of ratios, and what bounds the cost.
 
 use crate::agreement::hold_together;
-use crate::cases::{against_rust, growing, Case, Question};
+use crate::cases::{against_rust, growing, Case};
 use crate::counting::instructions;
+use crate::divisions;
 use crate::sides::{measured, Side};
 use crate::slow::{against_plain, at_full_size};
 use crate::timing::{ratio, under_a_second};
@@ -16,11 +17,6 @@ fn shown(number: Option<f64>) -> String {
     number.map_or("".to_string(), |number| {
         format!("{number:.*}", digits(number))
     })
-}
-
-/// Whether a case is of the one-processor test.
-fn is_one_processor(case: &Case) -> bool {
-    matches!(case.questions[0], Question::OneProcessor { .. })
 }
 
 /// Breaks off where another side answers a case otherwise than the proved program.
@@ -138,10 +134,11 @@ pub fn report() -> String {
         text += &told(against_rust_line(index, case));
     }
     text += include_str!("lengths.md");
-    for case in cases.iter().filter(|case| is_one_processor(case)) {
+    for case in cases.iter().filter(|case| case.is_one_processor()) {
         text += &told(against_lengths_line(case));
     }
     text += &slow_section(cases.len());
     text += &growth_section(cases.len() + at_full_size().len());
+    text += &told(divisions::section());
     text + include_str!("bounds.md")
 }

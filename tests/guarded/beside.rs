@@ -67,18 +67,39 @@ pub fn made(call: &Call, random: &mut Random) -> Seen {
         .unwrap_or_else(|why| end(&format!("broke off in {call:?}"), why))
 }
 
-/// The whole sheet refined by the at-once engine: the marks; the bounds are written to the words lent.
-pub fn refine_at_once(words: &[u32], processors: u32, method: u32, bounds: &mut [u32]) -> u64 {
+/// The whole sheet refined by an engine: the marks; the bounds are written to the words lent.
+fn refined(engine: Entry, words: &[u32], processors: u32, method: u32, bounds: &mut [u32]) -> u64 {
     let call = Call {
         words: words.to_vec(),
         processors,
         method,
         room: bounds.len(),
-        ..Call::of(Entry::RefineAtOnce)
+        ..Call::of(engine)
     };
     let seen = made(&call, &mut Random::of([0]));
     for (bound, word) in bounds.iter_mut().zip(&seen.after) {
         *bound = *word as u32;
     }
     seen.numbers[2]
+}
+
+/// The whole sheet refined by the at-once engine.
+pub fn refine_at_once(words: &[u32], processors: u32, method: u32, bounds: &mut [u32]) -> u64 {
+    refined(Entry::RefineAtOnce, words, processors, method, bounds)
+}
+
+/// The whole sheet refined by the rounds engine.
+pub fn refine_rounds(words: &[u32], processors: u32, method: u32, bounds: &mut [u32]) -> u64 {
+    refined(Entry::RefineRounds, words, processors, method, bounds)
+}
+
+/// The exact test for one processor: its outcome and length.
+pub fn one_processor(words: &[u32], horizon: u32) -> (u32, u32) {
+    let call = Call {
+        words: words.to_vec(),
+        horizon,
+        ..Call::of(Entry::OneProcessor)
+    };
+    let seen = made(&call, &mut Random::of([0]));
+    (seen.numbers[2] as u32, seen.numbers[3] as u32)
 }

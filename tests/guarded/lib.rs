@@ -19,7 +19,7 @@ mod wide;
 pub mod wire;
 
 #[cfg(not(target_arch = "x86_64"))]
-pub use beside::{made, refine_at_once};
+pub use beside::{made, one_processor, refine_at_once, refine_rounds};
 #[cfg(target_arch = "x86_64")]
 pub use made::made;
 #[cfg(target_arch = "x86_64")]
