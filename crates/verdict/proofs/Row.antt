@@ -24,7 +24,7 @@ pub jobs-from : (d p t : ℕ) → d ≤ t → jobsWithin d p t ≡ (t - d) / p +
 unfolding jobsWithin
 jobs-from d p t due = pick-no _ _ _ (le-ltb t d due)
 
--- So below D + T one job is due, and nothing has to be divided.
+-- So from D to below D + T one job is due, and nothing has to be divided.
 pub jobs-once : (d p t : ℕ) → d ≤ t → t < d + p → jobsWithin d p t ≡ 1
 jobs-once d p t due short =
     let within : t - d < p = omega arith in
