@@ -25,7 +25,8 @@ pub fn in_one_row() -> Vec<Slip> {
 
 /// The slips on one processor.
 pub fn on_one_processor() -> Vec<Slip> {
-    let lists: [&[Slip]; 5] = [
+    let lists: [&[Slip]; 6] = [
+        &kept_in!("the time behind D", demand, demand_behind, [12, 16, 18, 20]),
         &kept_in!("the periods of a demand", demand, demand_quotient, [12]),
         &kept_in!("a row's demand", demand, demand_product, [12, 16, 18]),
         &kept_in!("the demand", misses, demand_sum, [12, 16, 18, 20]),
@@ -158,6 +159,19 @@ fn work_product<const BITS: u32>(other: Row, bound: u64, length: u64) -> u64 {
 pub fn work_reach<const BITS: u32>(other: Row, bound: u64, length: u64) -> u64 {
     let reach = cut::<BITS>(length + bound - other.cost);
     reach / other.period * other.cost + other.cost.min(reach % other.period)
+}
+
+/// Demand of one job where the time behind the deadline, cut, is below a period.
+pub fn demand_behind<const BITS: u32>(row: Row, length: u64) -> u64 {
+    let once = |behind: u64| cut::<BITS>(behind) < row.period;
+    let jobs = |behind: u64| {
+        if once(behind) {
+            1
+        } else {
+            behind / row.period + 1
+        }
+    };
+    length.checked_sub(row.deadline).map_or(0, jobs) * row.cost
 }
 
 /// Demand with its periods cut.
