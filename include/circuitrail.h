@@ -51,7 +51,7 @@ extern "C" {
 #endif
 
 /* The version of this header and of the archive that is made beside it. */
-#define CIRCUITRAIL_VERSION "0.3.0"
+#define CIRCUITRAIL_VERSION "0.4.0"
 
 /* Every call takes fewer bytes of stack than this. Interrupt handlers that run on the same stack come on top. */
 #define CIRCUITRAIL_STACK_BYTES 5120
@@ -235,7 +235,9 @@ typedef struct {
 
 /*
  * Reads a task sheet. Its first line is `01`, processors (2 digits), rows (2 digits); then one line a row, `02` and C, D, T with 6 digits
- * each. Digits are 0 to 9 and A to F, big end first; each line ends in one byte 0A, and nothing follows the last.
+ * each. Digits are 0 to 9, A to F and a to f, big end first; each line ends in one byte 0A, and nothing follows the last. Whether letters
+ * are in upper or in lower case changes nothing: two sheets that are not refused are read as equal, processors, rows and every word, exactly
+ * where they differ in letter case at most.
  *
  * Written: the first 3n words of `words`, C then D then T of each row, where n is the row count. 192 words of room are always enough.
  *
@@ -251,7 +253,9 @@ typedef struct {
 } circuitrail_written;
 
 /*
- * Writes the task sheet of rows for `processors` processors, in the form that circuitrail_read_sheet reads.
+ * Writes the task sheet of rows for `processors` processors, in the form that circuitrail_read_sheet reads, with digits in upper case. So
+ * rows that are written are read back the same, and a sheet that is read and written comes back in upper case: byte for byte only where it
+ * had no letter in lower case.
  *
  * Written: the first CIRCUITRAIL_SHEET_BYTES(n) bytes of `out`, where n is the row count. No 0 byte ends them.
  *

@@ -18,6 +18,11 @@ enum { SHEET_LENGTH = CIRCUITRAIL_SHEET_BYTES(3), RESULT_LENGTH = CIRCUITRAIL_RE
 static const uint32_t COSTLESS[9] = {2, 5, 5, 0, 5, 5, 3, 6, 6};
 static const char DAMAGED[] = "010203\n02G00002000005000005\n02000002000005000005\n02000003000006000006\n";
 
+/* A sheet as an editor leaves it, its words, and how they are written. */
+static const char EDITED[] = "010a03\n0200000400000a00000A\n0200000400000A00000a\n0200000600000c00000C\n";
+static const uint32_t DOUBLED[9] = {4, 10, 10, 4, 10, 10, 6, 12, 12};
+static const char UPPER[] = "010A03\n0200000400000A00000A\n0200000400000A00000A\n0200000600000C00000C\n";
+
 /* S in columns, the same with no cost in row 1, and rows that are due before their periods' end. Each list as a function takes it. */
 static const uint32_t COSTS[66] = {2, 2, 3}, NO_COST[3] = {2, 0, 3}, DEADLINES[66] = {5, 5, 6}, PERIODS[66] = {5, 5, 6};
 static const uint32_t EARLY_COSTS[2] = {1, 2}, EARLY_DEADLINES[2] = {2, 3}, EARLY_PERIODS[2] = {4, 4};
@@ -299,6 +304,8 @@ static void read_sheet(void) {
     is_read("nothing at all", circuitrail_read_sheet(NULL, 0, NULL, 0), CIRCUITRAIL_REFUSED_FORM, 0, 0, 0);
     is_read("S", circuitrail_read_sheet(as_bytes(SHEET), SHEET_LENGTH, words, 10), 0, 0, 2, 3);
     memory("S", words, written, sizeof words);
+    is_read("sheet in both cases", circuitrail_read_sheet(as_bytes(EDITED), SHEET_LENGTH, words, 10), 0, 0, 10, 3);
+    memory("sheet in both cases", words, DOUBLED, sizeof DOUBLED);
 }
 
 static void is_written(const char *what, circuitrail_written got, uint32_t refusal, uint32_t place, uint32_t length) {
@@ -321,6 +328,8 @@ static void write_sheet(void) {
     is_written("nothing at all", circuitrail_write_sheet(NULL, 0, 2, NULL, 0), CIRCUITRAIL_REFUSED_NO_ROWS, 0, 0);
     is_written("S", circuitrail_write_sheet(S, 9, 2, out, ROOM), 0, 0, SHEET_LENGTH);
     bytes_hold("S", out, SHEET, SHEET_LENGTH);
+    is_written("upper case", circuitrail_write_sheet(DOUBLED, 9, 10, out, ROOM), 0, 0, SHEET_LENGTH);
+    bytes_hold("upper case", out, UPPER, SHEET_LENGTH);
 }
 
 static void write_result(void) {

@@ -122,6 +122,11 @@ const RESULT: &[u8] = b"110103\n1201000004\n1201000004\n1201000005\n";
 const COSTLESS: [u32; 9] = [2, 5, 5, 0, 5, 5, 3, 6, 6];
 const DAMAGED: &[u8] = b"010203\n02G00002000005000005\n02000002000005000005\n02000003000006000006\n";
 
+// A sheet as an editor leaves it, its words, and how they are written.
+const EDITED: &[u8] = b"010203\n0200000400000a00000A\n0200000400000A00000a\n0200000600000c00000C\n";
+const DOUBLED: [u32; 9] = [4, 10, 10, 4, 10, 10, 6, 12, 12];
+const UPPER: &[u8] = b"010203\n0200000400000A00000A\n0200000400000A00000A\n0200000600000C00000C\n";
+
 // Costs, deadlines and periods.
 type Columns<'a> = [&'a [u32]; 3];
 
@@ -350,6 +355,8 @@ fn read_sheet(tally: &mut Tally) {
     tally.same("read sheet, null room", without_room, is(7, 0, 0, 0));
     tally.same("read sheet, S", ask(SHEET, &mut words), is(0, 0, 2, 3));
     tally.same("read sheet, S, words", words, [2, 5, 5, 2, 5, 5, 3, 6, 6, 9]);
+    tally.same("read sheet, in both cases", ask(EDITED, &mut words), is(0, 0, 2, 3));
+    tally.same("read sheet, in both cases, words", &words[..9], &DOUBLED[..]);
 }
 
 // Lent bytes are dots before anything is written to them: the text stands at the front, and dots behind it.
@@ -376,6 +383,8 @@ fn write_sheet(tally: &mut Tally) {
     tally.same("write sheet, null room", unsafe { circuitrail_write_sheet(S.as_ptr(), 9, 2, null_mut(), 0) }, is(7, 0, 0));
     tally.same("write sheet, S", ask(&S, &mut out), is(0, 0, 70));
     tally.same("write sheet, S, bytes", out, holding(SHEET));
+    tally.same("write sheet, upper case", ask(&DOUBLED, &mut out), is(0, 0, 70));
+    tally.same("write sheet, upper case, bytes", out, holding(UPPER));
 }
 
 fn write_result(tally: &mut Tally) {

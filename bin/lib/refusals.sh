@@ -4,15 +4,18 @@
 line_feed=10
 carriage_return=13
 
-# number_at PLACE DIGITS: the number that stands at a place.
-number_at() {
-  local place number=0 byte
+# digits_at PLACE DIGITS: the digits that stand at a place, as they are typed.
+digits_at() {
+  local place code
   for ((place = $1; place < $1 + $2; place++)); do
-    byte=${bytes[place]}
-    number=$((16 * number + (byte < 58 ? byte - 48 : byte - 55)))
+    printf -v code %x "${bytes[place]}"
+    # shellcheck disable=SC2059
+    printf "\\x$code"
   done
-  printf '%s' "$number"
 }
+
+# number_at PLACE DIGITS: the number that stands at a place.
+number_at() { printf '%s' "$((16#$(digits_at "$1" "$2")))"; }
 
 # find_place PLACE: sets line and character, both counted from 1, and rows to what line 1 announces, empty where it is not yet known there.
 find_place() {
@@ -58,17 +61,17 @@ wanted_words() {
     if ((line == 1)); then printf 'the kind 01, with which line 1 begins'; else printf 'the kind 02, with which the line of a row begins'; fi
     ;;
   feed) printf 'a line feed, which ends the line after %s characters' "$((character - 1))" ;;
-  digit) printf 'a digit 0-9 or A-F of %s' "$(number_there)" ;;
+  digit) printf 'a digit 0-9, A-F or a-f of %s' "$(number_there)" ;;
   esac
 }
 
-# The number of rows that line 1 announces, in decimal and as it is written.
+# The number of rows that line 1 announces, in decimal and as it is typed.
 rows_words() {
   case $rows in
   1) printf '1 row' ;;
   *) printf '%s rows' "$rows" ;;
   esac
-  printf ' (written %02X, hexadecimal)' "$rows"
+  printf ' (written %s, hexadecimal)' "$(digits_at 4 2)"
 }
 
 # found_words PLACE: what stands at a place, in words.
@@ -150,11 +153,9 @@ hint_for_more() {
   fi
 }
 
-# hint_for_letter BYTE WANTED: what was typed in place of a digit, or of a kind, if it is one of the usual slips.
+# hint_for_letter BYTE: what was typed in place of a digit, or of a kind, if it is one of the usual slips.
 hint_for_letter() {
-  if [ "$2" = digit ] && stands_among "$1" abcdef; then
-    echo "digits above 9 are capital letters: A to F"
-  elif stands_among "$1" oO; then
+  if stands_among "$1" oO; then
     echo "that is a letter; the digit is 0"
   elif stands_among "$1" Il; then
     echo "that is a letter; the digit is 1"
@@ -198,7 +199,7 @@ hint() {
     hint_for_more "$1"
   elif [ "$wanted" = feed ] && rest_is_blank "$1"; then
     echo "there are spaces at the end of line $line: delete them"
-  elif [ "$wanted" = feed ] || ! hint_for_letter "$byte" "$wanted"; then
+  elif [ "$wanted" = feed ] || ! hint_for_letter "$byte"; then
     hint_for_length "$1" || hint_for_form "$1"
   fi
 }
@@ -216,7 +217,7 @@ count_words() {
   if [ "$1" -eq 4 ]; then place=2 digits="characters 3 and 4" what="processors"; fi
   number=$(number_at "$place" 2)
   echo "refusal $1: line 1 announces $number $what, and 1 to 64 are allowed"
-  printf 'hint: it is written %02X in %s of line 1, which is hexadecimal: ten is 0A, and 64 is 40\n' "$number" "$digits"
+  echo "hint: it is written $(digits_at "$place" 2) in $digits of line 1, which is hexadecimal: ten is 0A, and 64 is 40"
 }
 
 # row_words ROW: refusal 8 in words, with each size that is broken.

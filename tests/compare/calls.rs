@@ -1,6 +1,7 @@
 //! Calls with right numbers, drawn for an entry from a kind of sheet.
 
 use crate::lent::with_rows;
+use crate::letters::in_some_case;
 use second::call::{Call, Entry};
 use second::checks::room_needed;
 use second::one_processor::{verdict, Verdict};
@@ -26,19 +27,23 @@ pub fn right_call(entry: Entry, kind: Kind, random: &mut Random) -> Call {
         } else {
             1
         },
-        text: text_for(question, &drawn),
+        text: text_for(question, &drawn, random),
         room: room_needed(question, drawn.rows.len()) + random.one_of(&[0, 0, 0, 1, 5]),
         ..Call::of(entry)
     };
     with_rows(call, &drawn.rows)
 }
 
-/// The sheet's text; none for the density test, whose calls are many and have no use for it.
-fn text_for(entry: Entry, sheet: &Sheet) -> Vec<u8> {
+/// The sheet's text, in some case where it is given; none for the density test, whose calls are many and have no use for it.
+fn text_for(entry: Entry, sheet: &Sheet, random: &mut Random) -> Vec<u8> {
     if entry == Entry::Density {
         return Vec::new();
     }
-    sheet_text(&DOCUMENT, sheet.processors as u32, &words_of(&sheet.rows)).into_bytes()
+    let text = sheet_text(&DOCUMENT, sheet.processors as u32, &words_of(&sheet.rows)).into_bytes();
+    match entry {
+        Entry::ReadSheet | Entry::AnswerSheet => in_some_case(text, random),
+        _ => text,
+    }
 }
 
 /// How many terms of sums are few enough to be tried value by value: in a pass, and for one row, which is asked only once; often,

@@ -6,7 +6,7 @@ use second::random::Random;
 type Damage = fn(&mut Vec<u8>, &mut Random);
 
 /// Every way; some stand twice to come more often.
-const WAYS: [Damage; 13] = [
+const WAYS: [Damage; 12] = [
     cut,
     cut,
     insert,
@@ -14,15 +14,14 @@ const WAYS: [Damage; 13] = [
     change,
     change,
     remove,
-    lower_case,
-    all_lower_case,
+    past_the_letters,
     line_ends,
     append,
     count,
     lines_swapped,
 ];
 
-/// Bytes that a careless reader may take: near the digits, other cases, other line ends, 00.
+/// Bytes that a careless reader may take: near the digits of either case, other line ends, 00.
 const NEAR: [u8; 20] = [
     0x00, 0x0A, 0x0D, 0x09, 0x20, b'/', b'0', b'9', b':', b'@', b'A', b'F', b'G', b'`', b'a', b'f',
     b'g', 0x7F, 0x80, 0xFF,
@@ -77,19 +76,15 @@ fn remove(text: &mut Vec<u8>, random: &mut Random) {
     }
 }
 
-/// Writes one letter in lower case.
-fn lower_case(text: &mut Vec<u8>, random: &mut Random) {
+/// Exchanges one letter for the byte before A or behind F, of its case.
+fn past_the_letters(text: &mut Vec<u8>, random: &mut Random) {
     let letters: Vec<usize> = (0..text.len())
-        .filter(|&at| text[at].is_ascii_uppercase())
+        .filter(|&at| text[at].is_ascii_alphabetic())
         .collect();
     if !letters.is_empty() {
-        text[random.one_of(&letters)].make_ascii_lowercase();
+        let letter = &mut text[random.one_of(&letters)];
+        *letter = *letter & 0x20 | random.one_of(&[b'@', b'G']);
     }
-}
-
-/// Writes all letters in lower case.
-fn all_lower_case(text: &mut Vec<u8>, _random: &mut Random) {
-    text.make_ascii_lowercase();
 }
 
 /// Ends one line, or all, by 0D, 0D 0A or 0A 0A.

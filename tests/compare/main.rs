@@ -15,6 +15,7 @@ mod groups;
 mod hinges;
 mod lengths;
 mod lent;
+mod letters;
 mod natural;
 mod near;
 mod relations;

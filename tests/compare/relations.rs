@@ -2,6 +2,7 @@
 
 use crate::densities;
 use crate::lent::{in_triples, BY_COLUMNS};
+use crate::letters;
 use crate::trial::Trial;
 use guarded::Seen;
 use second::call::{Call, Entry};
@@ -25,7 +26,7 @@ pub struct Relation {
 }
 
 /// A relation between answers about the rows of right calls, tried as often as most.
-const fn between(
+pub const fn between(
     name: &'static str,
     broken: fn(Trial, &Call, &mut Random) -> Option<String>,
 ) -> Relation {
@@ -76,7 +77,7 @@ const OF_ALL_LENGTHS: &[Kind] = &[
 const OFTEN: usize = 25;
 
 /// Every relation.
-pub const RELATIONS: [Relation; 15] = [
+pub const RELATIONS: [Relation; 18] = [
     Relation {
         times: OFTEN,
         ..between(
@@ -111,6 +112,9 @@ pub const RELATIONS: [Relation; 15] = [
         wrong: &[false, true],
         ..between("columns and triples get the same answer", layouts_differ)
     },
+    letters::NO_MATTER,
+    letters::COMES_BACK,
+    letters::READ_AS_EQUAL,
     densities::TRUE,
     densities::NEAR,
     densities::IN_ANY_ORDER,
@@ -356,13 +360,7 @@ fn answer_apart(trial: Trial, call: &Call, random: &mut Random) -> Option<String
 fn layouts_differ(trial: Trial, call: &Call, random: &mut Random) -> Option<String> {
     let triples = trial.made(&in_triples(call)?, random);
     let columns = trial.made(call, random);
-    let left_alone = |seen: &Seen, place: usize| seen.after[place] == seen.before[place];
-    let same_at = |place: usize| {
-        triples.after[place] == columns.after[place]
-            || left_alone(&triples, place) && left_alone(&columns, place)
-    };
-    let same = triples.numbers == columns.numbers && (0..triples.after.len()).all(same_at);
-    (!same).then(|| {
+    (!answered_alike(&triples, &columns)).then(|| {
         format!(
             "triples {:?} {:?}, columns {:?} {:?}",
             triples.numbers, triples.after, columns.numbers, columns.after
@@ -370,7 +368,16 @@ fn layouts_differ(trial: Trial, call: &Call, random: &mut Random) -> Option<Stri
     })
 }
 
+/// Whether two calls returned the same numbers, and left at each place of the output the same, or what was there.
+pub fn answered_alike(one: &Seen, other: &Seen) -> bool {
+    let left_alone = |seen: &Seen, place: usize| seen.after[place] == seen.before[place];
+    let same_at = |place: usize| {
+        one.after[place] == other.after[place] || left_alone(one, place) && left_alone(other, place)
+    };
+    one.numbers == other.numbers && (0..one.after.len()).all(same_at)
+}
+
 /// The lent output of a call as bytes.
-fn bytes_of(seen: &Seen) -> Vec<u8> {
+pub fn bytes_of(seen: &Seen) -> Vec<u8> {
     seen.after.iter().map(|&byte| byte as u8).collect()
 }

@@ -192,9 +192,12 @@ fn smaller_text(call: &Call) -> Vec<Call> {
                 smaller_parameters(&sheet),
             ]
             .concat();
-            smaller_sheets
+            let texts = smaller_sheets
                 .iter()
-                .map(|tried| sheet_text(&DOCUMENT, tried.processors, &tried.words).into_bytes())
+                .map(|tried| sheet_text(&DOCUMENT, tried.processors, &tried.words).into_bytes());
+            texts
+                .flat_map(|text| [text.to_ascii_lowercase(), text])
+                .chain(fewer_in_lower_case(&call.text))
                 .collect()
         }
         Err(_) => [fewer_lines(&call.text), fewer_bytes(&call.text)].concat(),
@@ -206,6 +209,17 @@ fn smaller_text(call: &Call) -> Vec<Call> {
             ..call.clone()
         })
         .collect()
+}
+
+/// The text with one letter of it put in upper case.
+fn fewer_in_lower_case(text: &[u8]) -> Vec<Vec<u8>> {
+    let places = (0..text.len()).filter(|&place| text[place].is_ascii_lowercase());
+    let raised = |place: usize| {
+        let mut tried = text.to_vec();
+        tried[place].make_ascii_uppercase();
+        tried
+    };
+    places.map(raised).collect()
 }
 
 /// The row count that line one announces, where it is there and above 0.

@@ -3,6 +3,7 @@
 use crate::damage::damage;
 use crate::lengths::{drawn, lengthened};
 use crate::lent::{row_at, row_count, set_row};
+use crate::letters::in_some_case;
 use crate::widen::{widened, widened_word, with_more_behind};
 use second::call::{Call, Entry};
 use second::program::DOCUMENT;
@@ -238,5 +239,6 @@ fn numbers_in_text(call: &mut Call, random: &mut Random) {
         rows(call, random);
     }
     let as_six_digits: Vec<u32> = call.words.iter().map(|word| word & 0xFF_FFFF).collect();
-    call.text = sheet_text(&DOCUMENT, call.processors & 0xFF, &as_six_digits).into_bytes();
+    let text = sheet_text(&DOCUMENT, call.processors & 0xFF, &as_six_digits).into_bytes();
+    call.text = in_some_case(text, random);
 }

@@ -145,6 +145,78 @@ fn text_cases() -> Vec<Case> {
     ]
 }
 
+/// S with every number doubled, whose sheet has letters.
+const DOUBLED: [u32; 9] = [4, 10, 10, 4, 10, 10, 6, 12, 12];
+
+/// Its rows' lines, as they are written and as two editors leave them.
+const LINES: [(&str, &str); 3] = [
+    (
+        "case S doubled, in upper case",
+        "0200000400000A00000A\n0200000400000A00000A\n0200000600000C00000C\n",
+    ),
+    (
+        "case S doubled, in lower case",
+        "0200000400000a00000a\n0200000400000a00000a\n0200000600000c00000c\n",
+    ),
+    (
+        "case S doubled, in both cases",
+        "0200000400000a00000A\n0200000400000A00000a\n0200000600000c00000C\n",
+    ),
+];
+
+/// Bytes that are no digits, each beside one that is; g and G among them.
+const NO_DIGITS: [(&str, u8); 6] = [
+    ("2F for a digit", 0x2F),
+    ("3A for a digit", 0x3A),
+    ("40 for a digit", 0x40),
+    ("47 for a digit", 0x47),
+    ("60 for a digit", 0x60),
+    ("67 for a digit", 0x67),
+];
+
+/// A text read, with room for three rows.
+fn reading(name: &'static str, text: Vec<u8>, numbers: [u64; 4], words: &[u32]) -> Case {
+    let call = Call {
+        text,
+        ..call(Entry::ReadSheet, &DOUBLED, 2)
+    };
+    let due = Answer {
+        numbers: numbers.to_vec(),
+        words: words.to_vec(),
+        text: Vec::new(),
+    };
+    Case { name, call, due }
+}
+
+/// Letter case: S doubled is read in either, on ten processors, whose digit is a letter too, and answered on two, where the answer is
+/// in upper case; it is written in upper case; and a byte beside the digits is refused at its place, in line one and in a row.
+fn letter_cases() -> Vec<Case> {
+    let result = b"110103\n1201000008\n1201000008\n120100000A\n";
+    let mut cases = Vec::new();
+    for (name, lines) in LINES {
+        for first in ["010A03\n", "010a03\n"] {
+            let text = format!("{first}{lines}").into_bytes();
+            cases.push(reading(name, text, [0, 0, 10, 3], &DOUBLED));
+        }
+        let answered = Call {
+            text: format!("010203\n{lines}").into_bytes(),
+            ..call(Entry::AnswerSheet, &DOUBLED, 2)
+        };
+        cases.push(written(name, answered, result));
+    }
+    let sheet = format!("010A03\n{}", LINES[0].1).into_bytes();
+    let writing = call(Entry::WriteSheet, &DOUBLED, 10);
+    cases.push(written("case S doubled", writing, &sheet));
+    for (name, byte) in NO_DIGITS {
+        for place in [3, 20] {
+            let mut text = sheet.clone();
+            text[place] = byte;
+            cases.push(reading(name, text, [1, place as u64, 0, 0], &[]));
+        }
+    }
+    cases
+}
+
 /// Every case, with its rows in triples and, where an entry takes them so, in columns.
 pub fn cases() -> Vec<Case> {
     let triples = [
@@ -153,6 +225,7 @@ pub fn cases() -> Vec<Case> {
         density_cases(),
         sheet_cases(),
         text_cases(),
+        letter_cases(),
     ]
     .concat();
     let columns: Vec<Case> = triples.iter().filter_map(Case::in_columns).collect();

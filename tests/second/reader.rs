@@ -9,13 +9,13 @@ pub struct Written {
     pub words: Vec<u32>,
 }
 
-/// The value of a digit byte.
+/// The digits in order, in both cases.
+const DIGITS: [&[u8; 16]; 2] = [b"0123456789ABCDEF", b"0123456789abcdef"];
+
+/// The value of a digit byte: its place among the digits of either case.
 pub fn digit(byte: u8) -> Option<u32> {
-    match byte {
-        b'0'..=b'9' => Some((byte - b'0') as u32),
-        b'A'..=b'F' => Some((byte - b'A') as u32 + 10),
-        _ => None,
-    }
+    let place = |digits: &[u8; 16]| digits.iter().position(|&digit| digit == byte);
+    DIGITS.into_iter().find_map(place).map(|place| place as u32)
 }
 
 /// The lines of a text, each with the offset it begins at; only the last may lack its end.

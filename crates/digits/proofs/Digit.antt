@@ -1,56 +1,70 @@
--- The value of a digit byte and the byte of a digit's value are each other's inverse: by the two ranges, in each of which one is a
--- shift of the other.
+-- A byte's value and a value's byte, by the three ranges: in each of them one is a shift of the other, so the value comes back from the byte
+-- that is written for it.
 use mathlib.Core.Path.{_≡_, refl, _∙_}
-use mathlib.Core.Bool.{Bool, true, false, _&&_}
+use mathlib.Core.Bool.{Bool, true, false}
 use mathlib.Core.Logic.{⊎-elim}
 use Prim.Native.Nat.{ℕ, _+_, _-_, _%_, _≤_, _<_}
 use native.Mathlib.Nat.{mod-mod, mod-eq-of-lt}
 use native.Mathlib.Omega.{arith}
-use borrow.Author.Tests.{le-leb, lt-leb, lt-ltb, le-ltb, ltb-true}
+use borrow.Author.Tests.{le-leb, leb-true, lt-ltb, le-ltb}
 use lib.Dec.{leb}
-use Rattle.laws.proofs.Choice.{pick-yes, pick-no, and-both}
+use Rattle.laws.proofs.Choice.{pick-yes, pick-no, and-left, and-right, and-both}
 use Rattle.laws.proofs.Order.{below-or-from}
-use Rattle.digits.specs.Digits.{within, digitValue, isDigit, digitByte, upper}
+use Rattle.digits.specs.Digits.{within, digitValue, isDigit, digitByte}
 
--- From the first to the last a byte is within; below the first and above the last it is not.
-within-inside : (first last byte : ℕ) → first ≤ byte → byte ≤ last → within first last byte ≡ true
+-- A byte lies in a range or it does not.
+pub in-or-out : {P : Type 0} (first last byte : ℕ) → (first ≤ byte → byte ≤ last → P) → (within first last byte ≡ false → P) → P
+unfolding within
+in-or-out {P} first last byte inside outside = split (within first last byte) refl
+  where
+    split : (b : Bool) → within first last byte ≡ b → P
+    split true lies =
+        inside (leb-true first byte (and-left (leb first byte) (leb byte last) lies))
+        (leb-true byte last (and-right (leb first byte) (leb byte last) lies))
+    split false lies-not = outside lies-not
+
+pub within-inside : (first last byte : ℕ) → first ≤ byte → byte ≤ last → within first last byte ≡ true
 unfolding within
 within-inside first last byte from upto = and-both (leb first byte) (leb byte last) (le-leb first byte from) (le-leb byte last upto)
 
-within-below : (first last byte : ℕ) → byte < first → within first last byte ≡ false
-unfolding within
-within-below first last byte below = rw (lt-leb first byte below)
+pub within-outside : (first last byte : ℕ) → (first ≤ byte → byte ≤ last → ⊥) → within first last byte ≡ false
+within-outside first last byte out = in-or-out first last byte (λ from upto. absurd (out from upto)) (λ lies-not. lies-not)
 
-within-above : (first last byte : ℕ) → last < byte → within first last byte ≡ false
-unfolding within
-within-above first last byte above = either (leb first byte)
-  where
-    either : (b : Bool) → (b && leb byte last) ≡ false
-    either true = lt-leb byte last above
-    either false = refl
-
--- The value of a byte in each range, and of one in neither.
+-- The value of a byte in each range, and of one in none.
 pub value-decimal : (byte : ℕ) → 0x30 ≤ byte → byte ≤ 0x39 → digitValue byte ≡ byte - 0x30
 unfolding digitValue
 value-decimal byte from upto = pick-yes _ _ _ (within-inside 0x30 0x39 byte from upto)
 
-pub value-letter : (byte : ℕ) → 0x41 ≤ byte → byte ≤ 0x46 → digitValue byte ≡ byte - 0x41 + 10
+pub value-upper : (byte : ℕ) → 0x41 ≤ byte → byte ≤ 0x46 → digitValue byte ≡ byte - 0x41 + 10
 unfolding digitValue
-value-letter byte from upto =
-    pick-no _ _ _ (within-above 0x30 0x39 byte (omega arith)) ∙ pick-yes _ _ _ (within-inside 0x41 0x46 byte from upto)
+value-upper byte from upto =
+    pick-no _ _ _ (within-outside 0x30 0x39 byte (λ above below. omega arith)) ∙ pick-yes _ _ _ (within-inside 0x41 0x46 byte from upto)
 
-value-neither : (byte : ℕ) → within 0x30 0x39 byte ≡ false → within 0x41 0x46 byte ≡ false → digitValue byte ≡ 16
+pub value-lower : (byte : ℕ) → 0x61 ≤ byte → byte ≤ 0x66 → digitValue byte ≡ byte - 0x61 + 10
 unfolding digitValue
-value-neither byte no-decimal no-letter = pick-no _ _ _ no-decimal ∙ pick-no _ _ _ no-letter
+value-lower byte from upto =
+    pick-no _ _ _ (within-outside 0x30 0x39 byte (λ above below. omega arith))
+    ∙ pick-no _ _ _ (within-outside 0x41 0x46 byte (λ above below. omega arith))
+    ∙ pick-yes _ _ _ (within-inside 0x61 0x66 byte from upto)
 
-pub value-under : (byte : ℕ) → byte < 0x30 → digitValue byte ≡ 16
-value-under byte below = value-neither byte (within-below 0x30 0x39 byte below) (within-below 0x41 0x46 byte (omega arith))
+value-outside : (byte : ℕ) → within 0x30 0x39 byte ≡ false → within 0x41 0x46 byte ≡ false → within 0x61 0x66 byte ≡ false → digitValue byte ≡ 16
+unfolding digitValue
+value-outside byte no-decimal no-upper no-lower = pick-no _ _ _ no-decimal ∙ pick-no _ _ _ no-upper ∙ pick-no _ _ _ no-lower
 
-pub value-between : (byte : ℕ) → 0x39 < byte → byte < 0x41 → digitValue byte ≡ 16
-value-between byte above below = value-neither byte (within-above 0x30 0x39 byte above) (within-below 0x41 0x46 byte below)
+pub value-none : (byte : ℕ) → (0x30 ≤ byte → byte ≤ 0x39 → ⊥) → (0x41 ≤ byte → byte ≤ 0x46 → ⊥) → (0x61 ≤ byte → byte ≤ 0x66 → ⊥)
+    → digitValue byte ≡ 16
+value-none byte no-decimal no-upper no-lower =
+    value-outside byte (within-outside 0x30 0x39 byte no-decimal) (within-outside 0x41 0x46 byte no-upper)
+    (within-outside 0x61 0x66 byte no-lower)
 
-pub value-over : (byte : ℕ) → 0x46 < byte → digitValue byte ≡ 16
-value-over byte above = value-neither byte (within-above 0x30 0x39 byte (omega arith)) (within-above 0x41 0x46 byte above)
+-- Every byte lies in one of the three ranges, or counts 16.
+pub by-range : {P : Type 0} (byte : ℕ) → (0x30 ≤ byte → byte ≤ 0x39 → P) → (0x41 ≤ byte → byte ≤ 0x46 → P)
+    → (0x61 ≤ byte → byte ≤ 0x66 → P) → (digitValue byte ≡ 16 → P) → P
+by-range byte decimal upper lower none =
+    in-or-out 0x30 0x39 byte decimal
+    (λ no-decimal.
+    in-or-out 0x41 0x46 byte upper
+    (λ no-upper. in-or-out 0x61 0x66 byte lower (λ no-lower. none (value-outside byte no-decimal no-upper no-lower))))
 
 -- The byte of a number whose last digit is below 10, and of one whose last digit is a letter.
 pub byte-decimal : (value : ℕ) → value % 16 < 10 → digitByte value ≡ 0x30 + value % 16
@@ -74,7 +88,7 @@ value-of-byte value =
     (λ (below : value % 16 < 10).
     rw (byte-decimal value below) (value-decimal (0x30 + value % 16) (omega arith) (omega arith) ∙ omega arith))
     (λ (from : 10 ≤ value % 16).
-    rw (byte-letter value from) (value-letter (0x41 + (value % 16 - 10)) (omega arith) (omega arith) ∙ omega arith))
+    rw (byte-letter value from) (value-upper (0x41 + (value % 16 - 10)) (omega arith) (omega arith) ∙ omega arith))
     (below-or-from (value % 16) 10)
 
 -- The digit's value comes back.
@@ -86,38 +100,9 @@ pub byte-is-digit : (value : ℕ) → isDigit (digitByte value) ≡ true
 unfolding isDigit
 byte-is-digit value = lt-ltb (digitValue (digitByte value)) 16 (rw value-of-byte (omega arith))
 
--- Every byte lies in one of the two ranges, or counts 16.
-by-range : {P : Type 0} (byte : ℕ) → (0x30 ≤ byte → byte ≤ 0x39 → P) → (0x41 ≤ byte → byte ≤ 0x46 → P)
-    → (digitValue byte ≡ 16 → P) → P
-by-range byte decimal letter none =
-    ⊎-elim (λ (under : byte < 0x30). none (value-under byte under))
-    (λ (from-zero : 0x30 ≤ byte).
-    ⊎-elim (λ (upto-nine : byte < 0x3A). decimal from-zero (omega arith))
-    (λ (past-nine : 0x3A ≤ byte).
-    ⊎-elim (λ (between : byte < 0x41). none (value-between byte past-nine between))
-    (λ (from-a : 0x41 ≤ byte).
-    ⊎-elim (λ (upto-f : byte < 0x47). letter from-a (omega arith)) (λ (over : 0x47 ≤ byte). none (value-over byte over))
-    (below-or-from byte 0x47))
-    (below-or-from byte 0x41))
-    (below-or-from byte 0x3A))
-    (below-or-from byte 0x30)
-
 -- No byte counts more than 16.
 pub value-limit : (byte : ℕ) → digitValue byte ≤ 16
 value-limit byte =
-    by-range byte (λ from upto. rw (value-decimal byte from upto) (omega arith)) (λ from upto. rw (value-letter byte from upto) (omega arith))
+    by-range byte (λ from upto. rw (value-decimal byte from upto) (omega arith)) (λ from upto. rw (value-upper byte from upto) (omega arith))
+    (λ from upto. rw (value-lower byte from upto) (omega arith))
     (λ none. rw none (omega arith))
-
--- The digit byte comes back.
-pub upper-self : (byte : ℕ) → isDigit byte ≡ true → upper byte ≡ byte
-unfolding isDigit upper
-upper-self byte digit =
-    let small : digitValue byte < 16 = ltb-true (digitValue byte) 16 digit in
-    by-range byte
-    (λ from upto.
-    let value : digitValue byte ≡ byte - 0x30 = value-decimal byte from upto in
-    rw (byte-decimal (digitValue byte) (omega arith)) (omega arith))
-    (λ from upto.
-    let value : digitValue byte ≡ byte - 0x41 + 10 = value-letter byte from upto in
-    rw (byte-letter (digitValue byte) (omega arith)) (omega arith))
-    (λ none. absurd (omega arith))

@@ -1,3 +1,4 @@
 pub mod Digit
+pub mod Upper
 pub mod Number
 pub mod Line

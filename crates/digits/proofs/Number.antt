@@ -1,7 +1,7 @@
 -- Numbers of several digits. Reading and writing both go digit by digit and end with the last one, so each law is one induction.
 use mathlib.Core.Path.{_≡_, refl, sym, _∙_, ap, ap₂}
 use mathlib.Core.Bool.{true}
-use mathlib.Core.List.{List, [], _∷_, _++_}
+use mathlib.Core.List.{List, [], _∷_, _++_, map}
 use Prim.Native.Nat.{ℕ, zero, suc, _+_, _*_, _-_, _/_, _%_, _^_, _≤_, _<_}
 use native.Mathlib.Nat.{le-step, lt-suc-self, pow-suc, pow-le-pow-right, div-lt-iff-lt-mul}
 use native.Mathlib.Numerals.{add-one}
@@ -15,6 +15,7 @@ use Rattle.laws.proofs.Choice.{pick-yes, pick-no}
 use Rattle.laws.proofs.Fill.{put-block}
 use Rattle.digits.specs.Digits.{digitValue, isDigit, digitByte, upper, number, digits, withDigits}
 use Rattle.digits.proofs.Digit.{value-limit, value-of-byte, byte-last}
+use Rattle.digits.proofs.Upper.{same-value, byte-back, upper-twice, upper-at}
 
 -- One digit more.
 pub number-more : (bytes : List ℕ) (at count : ℕ)
@@ -48,14 +49,24 @@ number-below bytes at (suc count) each =
       pow-suc 16 count,
     )
 
--- The same bytes, wherever they stand, say the same number.
+-- Bytes that are the same in upper case, wherever they stand, say the same number.
+pub number-alike : (bytes others : List ℕ) (at there count : ℕ)
+    → ((i : ℕ) → i < count → upper (getD bytes (at + i) 0) ≡ upper (getD others (there + i) 0)) → number bytes at count ≡ number others there count
+unfolding number
+number-alike bytes others at there zero each = refl
+number-alike bytes others at there (suc count) each =
+    ap₂ (λ (sum value : ℕ). sum * 16 + value) (number-alike bytes others at there count (λ i h. each i (le-step h)))
+    (same-value (getD bytes (at + count) 0) (getD others (there + count) 0) (each count (lt-suc-self count)))
+
+-- All the more the same bytes.
 pub number-same : (bytes others : List ℕ) (at there count : ℕ)
     → ((i : ℕ) → i < count → getD bytes (at + i) 0 ≡ getD others (there + i) 0) → number bytes at count ≡ number others there count
-unfolding number
-number-same bytes others at there zero each = refl
-number-same bytes others at there (suc count) each =
-    ap₂ (λ (sum byte : ℕ). sum * 16 + digitValue byte) (number-same bytes others at there count (λ i h. each i (le-step h)))
-    (each count (lt-suc-self count))
+number-same bytes others at there count each = number-alike bytes others at there count (λ i h. ap upper (each i h))
+
+-- Bytes in upper case say what they said.
+pub number-upper : (bytes : List ℕ) (at count : ℕ) → number (map upper bytes) at count ≡ number bytes at count
+number-upper bytes at count =
+    number-alike (map upper bytes) bytes at at count (λ i h. ap upper (upper-at bytes (at + i)) ∙ upper-twice (getD bytes (at + i) 0))
 
 -- As many digits as asked for.
 pub digits-length : (count value : ℕ) → length (digits count value) ≡ count
@@ -86,17 +97,19 @@ number-of-digits bytes at (suc count) value small each =
     ap digitValue (each count (lt-suc-self count) ∙ digits-last count value) ∙ value-of-byte value in
     omega arith
 
--- The digits of a number that was read are the bytes that it was read from, each as it is written.
+-- The digits of a number that was read are the bytes that it was read from, each in upper case.
 pub digits-of-number : (bytes : List ℕ) (at count : ℕ) → ((i : ℕ) → i < count → isDigit (getD bytes (at + i) 0) ≡ true)
     → digits count (number bytes at count) ≡ listed (λ i. upper (getD bytes (at + i) 0)) count
-unfolding number digits listed isDigit upper
+unfolding number digits listed isDigit
 digits-of-number bytes at zero each = refl
 digits-of-number bytes at (suc count) each =
     let byte = getD bytes (at + count) 0 in
     let small : digitValue byte < 16 = ltb-true (digitValue byte) 16 (each count (lt-suc-self count)) in
     let front : (number bytes at count * 16 + digitValue byte) / 16 ≡ number bytes at count = digits-div (number bytes at count) small in
-    let last : digitByte (number bytes at count * 16 + digitValue byte) ≡ digitByte (digitValue byte) =
-    sym (byte-last (number bytes at count * 16 + digitValue byte)) ∙ ap digitByte (digits-mod (number bytes at count) small) in
+    let last : digitByte (number bytes at count * 16 + digitValue byte) ≡ upper byte =
+    sym (byte-last (number bytes at count * 16 + digitValue byte))
+    ∙ ap digitByte (digits-mod (number bytes at count) small)
+    ∙ byte-back byte (each count (lt-suc-self count)) in
     ap₂ (λ (l : List ℕ) (b : ℕ). l ++ (b ∷ []))
     (ap (digits count) front ∙ digits-of-number bytes at count (λ i h. each i (le-step h)))
     last

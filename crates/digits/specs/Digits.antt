@@ -1,4 +1,4 @@
--- Digits are 0 to 9 and A to F, and numbers are big end first.
+-- Digits are 0 to 9 and A to F, which are read in lower case too, and numbers are big end first.
 use mathlib.Core.Bool.{Bool, _&&_}
 use mathlib.Core.List.{List, [], _∷_, _++_}
 use Prim.Native.Nat.{ℕ, zero, suc, _+_, _*_, _-_, _/_, _%_}
@@ -10,21 +10,26 @@ use Rattle.laws.specs.Choice.{pick}
 unfoldable pub within : ℕ → ℕ → ℕ → Bool
 within first last byte = leb first byte && leb byte last
 
--- The value of a digit byte: `0` (30) to `9` (39) are 0 to 9, `A` (41) to `F` (46) are 10 to 15. A byte that is no digit counts 16.
+-- The value of a digit byte: `0` (30) to `9` (39) are 0 to 9, `A` (41) to `F` (46) and `a` (61) to `f` (66) are 10 to 15. A byte that is
+-- no digit counts 16.
 unfoldable pub digitValue : ℕ → ℕ
-digitValue byte = pick (within 0x30 0x39 byte) (byte - 0x30) (pick (within 0x41 0x46 byte) (byte - 0x41 + 10) 16)
+digitValue byte =
+    pick (within 0x30 0x39 byte) (byte - 0x30)
+    (pick (within 0x41 0x46 byte) (byte - 0x41 + 10)
+    (pick (within 0x61 0x66 byte) (byte - 0x61 + 10)
+    16))
 
 -- Whether a byte is a digit.
 unfoldable pub isDigit : ℕ → Bool
 isDigit byte = ltb (digitValue byte) 16
 
--- The byte of a digit's value. Of a number of more digits it is the byte of the last.
+-- The byte of a digit's value, in upper case. Of a number of more digits it is the byte of the last.
 unfoldable pub digitByte : ℕ → ℕ
 digitByte value = pick (ltb (value % 16) 10) (0x30 + value % 16) (0x41 + (value % 16 - 10))
 
--- The byte that is written for a digit byte that was read: the byte itself.
+-- A byte in upper case: `a` (61) to `f` (66) become `A` (41) to `F` (46), and every other byte is as it was.
 unfoldable pub upper : ℕ → ℕ
-upper byte = digitByte (digitValue byte)
+upper byte = pick (within 0x61 0x66 byte) (byte - 0x61 + 0x41) byte
 
 -- The number that the `count` digits from offset `at` on say. Past the end a byte reads 0.
 unfoldable pub number : List ℕ → ℕ → ℕ → ℕ

@@ -1,16 +1,17 @@
-// Hexadecimal digits: one digit read and written, and numbers of several digits, big end first.
+// Hexadecimal digits: one digit read, in either case, and written, in upper case; and numbers of several digits, big end first.
 ghost use mathlib.Core.Path.{_≡_};
 ghost use Rattle.digits.specs.Digits.{digitValue, digitByte, number, withDigits};
 
 mod numbers;
 
-// The value of a digit byte; 16 for a byte that is no digit.
+// The value of a digit byte of either case; 16 for a byte that is no digit.
 pub fn digit_value(byte: u8) -> u8
     ensures { λ r. ⌜ r ≡ digitValue byte ⌝ }
 {
     match byte {
         b'0'..=b'9' => byte - b'0',
         b'A'..=b'F' => byte - b'A' + 10,
+        b'a'..=b'f' => byte - b'a' + 10,
         _ => 16,
     }
 }

@@ -1,6 +1,6 @@
 -- What reading and writing return and leave behind, by what the input is: not refused exactly where everything asked for holds, and
 -- refusal 1 exactly where the bytes break the form, at the place where they do.
-use mathlib.Core.Path.{_≡_, refl, sym, _∙_, ap}
+use mathlib.Core.Path.{_≡_, refl, sym, _∙_, ap, ap₂}
 use mathlib.Core.Bool.{Bool, true, false}
 use mathlib.Core.List.{List, _++_}
 use mathlib.Core.Option.{Option, none, some}
@@ -8,7 +8,8 @@ use mathlib.Core.Logic.{_↔_}
 use Prim.Native.Nat.{ℕ, _*_}
 use native.Mathlib.Omega.{arith}
 use lib.Dec.{eqb, ltb}
-use lib.ListN.{length, drop}
+use lib.ListN.{length, take, drop}
+use lib.Seq.{take-at}
 use Rattle.laws.specs.Choice.{pick}
 use Rattle.laws.proofs.Fill.{front-put}
 use Rattle.laws.proofs.Choice.{number-kept, zero-where-refused}
@@ -22,9 +23,9 @@ use Rattle.grammar.specs.declared.Written.{Written}
 use Rattle.grammar.specs.Grammar.{sheetLength, processorsWritten, rowsWritten, firstWrong}
 use Rattle.grammar.specs.Lines.{sheetBytes, wordsWritten}
 use Rattle.grammar.specs.Meaning.{Breaks, Readable, Writable}
-use Rattle.grammar.specs.Sheets.{betweenRefusal, formedRefusal, formRefusal, readRefusal, readRefused, readAnswer, readSheet, wordsAfter, writeRefusal, writeAnswer, writeSheet, bytesAfter}
+use Rattle.grammar.specs.Sheets.{betweenRefusal, formedRefusal, formRefusal, readRefusal, readRefused, readAnswer, readSheet, wordsAfter, rowsRead, writeRefusal, writeAnswer, writeSheet, bytesAfter}
 use Rattle.grammar.proofs.Meaning.{form-means, form-fixed}
-use Rattle.grammar.proofs.Refusals.{passed, passes, read-refused, read-accepted, write-accepted, form-wrong, form-right}
+use Rattle.grammar.proofs.Refusals.{passed, passes, words-length, read-refused, read-accepted, write-accepted, form-wrong, form-right}
 
 pub read-number : (bytes : List ℕ) (room : ℕ) → (readSheet bytes room) .refusal ≡ (readRefusal bytes room) .number
 unfolding readSheet readAnswer
@@ -90,6 +91,19 @@ read-leaves bytes words facts =
     sym
     (front-put ((readRefusal bytes (length words)) .number) (wordsWritten bytes) words
     (ap (λ (f : Refusal). f .number) (readable bytes (length words) facts)))
+
+-- Its parts: processors and rows as written, and the words of the rows.
+module _ (bytes words : List ℕ) (facts : Readable bytes (length words)) where
+  pub processors-read : (readSheet bytes (length words)) .processors ≡ processorsWritten bytes
+  processors-read = ap (λ (r : Read). r .processors) (read-answers bytes (length words) facts)
+
+  pub rows-read : (readSheet bytes (length words)) .rows ≡ rowsWritten bytes
+  rows-read = ap (λ (r : Read). r .rows) (read-answers bytes (length words) facts)
+
+  pub words-read : rowsRead bytes words ≡ wordsWritten bytes
+  words-read =
+      ap₂ take (ap (λ (n : ℕ). 3 * n) rows-read) (read-leaves bytes words facts)
+      ∙ take-at (wordsWritten bytes) (drop (length (wordsWritten bytes)) words) (3 * rowsWritten bytes) (words-length bytes)
 
 pub write-found : (words : List ℕ) (processors room : ℕ) → (writeSheet words processors room) .refusal ≡ 0 → Writable words processors room
 unfolding writeRefusal

@@ -2,9 +2,11 @@ pub mod Grammar
 pub mod Lines
 pub mod Refusals
 pub mod Meaning
+pub mod LetterCase
 pub mod ReadBack
 pub mod WriteBack
 pub mod Entries
 pub mod RoundTrips
+pub mod ReadAlike
 pub mod OneAnswer
 pub mod Prefix

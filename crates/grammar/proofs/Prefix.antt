@@ -14,20 +14,21 @@ use Rattle.laws.specs.Fill.{listed}
 use Rattle.laws.proofs.Choice.{never-both, pick-yes, pick-no}
 use Rattle.laws.proofs.Order.{below-or-from}
 use Rattle.laws.proofs.Fill.{listed-length, listed-at}
-use Rattle.digits.specs.Digits.{isDigit, digitValue, within, number}
-use Rattle.digits.proofs.Number.{number-same}
+use Rattle.digits.specs.Digits.{isDigit, digitValue, within, upper, number}
+use Rattle.digits.proofs.Number.{number-same, number-alike}
 use Rattle.grammar.specs.Grammar.{head, line, sheetLength, lineAllows, sheetAllows, rowsWritten}
-use Rattle.grammar.specs.Meaning.{Formed, EndsAt, WrongByteAt, Breaks, AlikeBelow, FarAs}
+use Rattle.grammar.specs.Meaning.{Formed, EndsAt, WrongByteAt, Breaks, AlikeBelow, SameLettersBelow, FarAs}
 use Rattle.grammar.proofs.Grammar.{line-zero, line-kind, line-end, line-digit, sheet-head, sheet-row}
 use Rattle.grammar.proofs.Meaning.{breaks-within}
+use Rattle.grammar.proofs.LetterCase.{allowed-alike}
 
--- Bytes that are alike past the row count announce the same rows.
-same-rows : (bytes other : List ℕ) (place : ℕ) → head ≤ place → AlikeBelow bytes other place → rowsWritten other ≡ rowsWritten bytes
+-- Bytes that differ past the row count in letter case at most announce the same rows.
+same-rows : (bytes other : List ℕ) (place : ℕ) → head ≤ place → SameLettersBelow bytes other place → rowsWritten other ≡ rowsWritten bytes
 unfolding head rowsWritten
-same-rows bytes other place past alike = number-same other bytes 4 4 2 (λ i h. alike (4 + i) (omega arith))
+same-rows bytes other place past alike = number-alike other bytes 4 4 2 (λ i h. alike (4 + i) (omega arith))
 
 -- So what may stand at an offset is the same in both.
-same-allowed : (bytes other : List ℕ) (place i byte : ℕ) → i ≤ place → AlikeBelow bytes other place
+same-allowed : (bytes other : List ℕ) (place i byte : ℕ) → i ≤ place → SameLettersBelow bytes other place
     → sheetAllows (rowsWritten other) i byte ≡ sheetAllows (rowsWritten bytes) i byte
 same-allowed bytes other place i byte within alike =
     ⊎-elim (λ (first : i < head). sheet-head (rowsWritten other) i byte first ∙ sym (sheet-head (rowsWritten bytes) i byte first))
@@ -157,7 +158,7 @@ module _ (bytes : List ℕ) (place : ℕ) where
   may-stand breaks i inside =
       ⊎-elim
       (λ (below : i < place).
-      same-allowed bytes (filledUp bytes place) place i _ (omega arith) (alike breaks)
+      same-allowed bytes (filledUp bytes place) place i _ (omega arith) (λ j under. ap upper (alike breaks j under))
       ∙ ap (sheetAllows (rowsWritten bytes) i) (alike breaks i below)
       ∙ breaks .before i below)
       (λ (from : place ≤ i).
@@ -165,14 +166,14 @@ module _ (bytes : List ℕ) (place : ℕ) where
       rw (announced, filled-at i within, filled-from i from) (sheet-filled (rowsThere bytes place) i within))
       (below-or-from i place)
 
--- No sheet has the byte at the place too: it may not stand there in any that has those before it.
+-- No sheet has the byte at the place too: it may not stand there in any that has those before it, whatever the case.
 beyond : (bytes : List ℕ) (place : ℕ) → Breaks bytes place → place < length bytes → (sheet : List ℕ) → Formed sheet → place < length sheet
-    → AlikeBelow bytes sheet (suc place) → ⊥
+    → SameLettersBelow bytes sheet (suc place) → ⊥
 beyond bytes place breaks inside sheet formed long same =
     ⊎-elim (λ (ends : EndsAt bytes place). let end : place ≡ length bytes = ends .end in omega arith)
     (λ (wrong : WrongByteAt bytes place).
     never-both (formed .each place long)
-    (ap (sheetAllows (rowsWritten sheet) place) (same place (omega arith))
+    (allowed-alike (rowsWritten sheet) place (getD sheet place 0) (getD bytes place 0) (same place (omega arith))
     ∙ same-allowed bytes sheet place place (getD bytes place 0) (omega arith) (λ i below. same i (omega arith))
     ∙ wrong .refused))
     (breaks .here)

@@ -1,16 +1,18 @@
--- A sheet that has the form is what its numbers write: line by line, each digit was read from the byte that is written for it.
+-- A sheet that has the form is, in upper case, what its numbers write: line by line, each digit was read from the byte that is written for
+-- it, or from that byte in lower case.
 use mathlib.Core.Path.{_≡_, refl, sym, _∙_, ap, ap₂}
 use mathlib.Core.Bool.{true}
-use mathlib.Core.List.{List, [], _∷_, _++_}
+use mathlib.Core.List.{List, [], _∷_, _++_, map}
 use Prim.Native.Nat.{ℕ, _+_, _*_, _-_, _%_, _≤_, _<_}
 use native.Mathlib.Nat.{add-assoc, zero-add, mul-comm}
 use native.Mathlib.Omega.{arith}
 use borrow.Author.Tests.{eqb-true}
-use lib.ListN.{length, getD}
+use lib.Dec.{eqb}
+use lib.ListN.{length, getD, length-map}
 use Rattle.laws.specs.Fill.{listed, joined}
 use Rattle.laws.proofs.Fill.{listed-at, listed-same, listed-back}
-use Rattle.digits.specs.Digits.{isDigit, digitByte, number, digits}
-use Rattle.digits.proofs.Digit.{upper-self}
+use Rattle.digits.specs.Digits.{isDigit, digitByte, upper, number, digits}
+use Rattle.digits.proofs.Upper.{upper-stays, upper-at}
 use Rattle.digits.proofs.Number.{digits-of-number}
 use Rattle.rows.specs.Words.{sheetOf}
 use Rattle.rows.proofs.Words.{cost-word, deadline-word, period-word}
@@ -21,27 +23,35 @@ use Rattle.grammar.proofs.Grammar.{line-zero, line-kind, line-end, line
 use Rattle.laws.proofs.Cuts.{listed-cut, joined-listed, joined-same}
 use Rattle.grammar.proofs.Refusals.{words-rows}
 
--- The digits of a number that was read behind a line's start are the bytes that stand there.
+-- The byte at an offset, in upper case.
+abbrev upperAt : List ℕ → ℕ → ℕ
+upperAt bytes offset = upper (getD bytes offset 0)
+
+-- The digits of a number that was read behind a line's start are the bytes that stand there, in upper case.
 piece : (bytes : List ℕ) (at place count : ℕ) → ((i : ℕ) → i < count → isDigit (getD bytes (at + (place + i)) 0) ≡ true)
-    → digits count (number bytes (at + place) count) ≡ listed (λ i. getD bytes (at + (place + i)) 0) count
+    → digits count (number bytes (at + place) count) ≡ listed (λ i. upperAt bytes (at + (place + i))) count
 piece bytes at place count each =
     digits-of-number bytes (at + place) count (λ i h. rw add-assoc (each i h))
-    ∙ listed-same _ _ count (λ i h. rw (add-assoc at place i) (upper-self (getD bytes (at + (place + i)) 0) (each i h)))
+    ∙ listed-same _ _ count (λ i h. ap (upperAt bytes) (add-assoc at place i))
 
 -- A line that stands in the bytes from `at` on.
 abbrev LineAt : List ℕ → ℕ → ℕ → ℕ → Type 0
 LineAt bytes at kind last = (j : ℕ) → j ≤ last → lineAllows kind last j (getD bytes (at + j) 0) ≡ true
 
+-- A byte that is known to be no letter is the same in upper case.
+known : (byte sign : ℕ) → sign < 0x41 → eqb byte sign ≡ true → upper byte ≡ sign
+known byte sign plain same = ap upper (eqb-true byte sign same) ∙ upper-stays sign (λ above below. omega arith)
+
 -- What such a line says of its bytes: `0`, its kind, digits, 0A.
-module _ (bytes : List ℕ) (at kind last : ℕ) (stands : LineAt bytes at kind last) (long : 2 ≤ last) where
-  zero-stands : getD bytes (at + 0) 0 ≡ 0x30
-  zero-stands = eqb-true _ 0x30 (sym (line-zero kind last 0 _ refl) ∙ stands 0 (omega arith))
+module _ (bytes : List ℕ) (at kind last : ℕ) (stands : LineAt bytes at kind last) (long : 2 ≤ last) (plain : kind < 0x41) where
+  zero-stands : upperAt bytes (at + 0) ≡ 0x30
+  zero-stands = known _ 0x30 (omega arith) (sym (line-zero kind last 0 _ refl) ∙ stands 0 (omega arith))
 
-  kind-stands : getD bytes (at + 1) 0 ≡ kind
-  kind-stands = eqb-true _ kind (sym (line-kind kind last 1 _ refl) ∙ stands 1 (omega arith))
+  kind-stands : upperAt bytes (at + 1) ≡ kind
+  kind-stands = known _ kind plain (sym (line-kind kind last 1 _ refl) ∙ stands 1 (omega arith))
 
-  end-stands : getD bytes (at + last) 0 ≡ 0x0A
-  end-stands = eqb-true _ 0x0A (sym (line-end kind last last _ long refl) ∙ stands last (omega arith))
+  end-stands : upperAt bytes (at + last) ≡ 0x0A
+  end-stands = known _ 0x0A (omega arith) (sym (line-end kind last last _ long refl) ∙ stands last (omega arith))
 
   digit-stands : (j : ℕ) → 2 ≤ j → j < last → isDigit (getD bytes (at + j) 0) ≡ true
   digit-stands j from below = sym (line-digit kind last j _ from (λ same. omega arith)) ∙ stands j (omega arith)
@@ -65,34 +75,36 @@ row-cut : (f : ℕ → ℕ)
 unfolding listed
 row-cut f = refl
 
--- Line one as written is what its numbers write.
+-- Line one as written is, in upper case, what its numbers write.
 first-line-back : (bytes : List ℕ) → LineAt bytes 0 0x31 (head - 1)
-    → firstLine (processorsWritten bytes) (rowsWritten bytes) ≡ listed (λ j. getD bytes (0 + j) 0) head
+    → firstLine (processorsWritten bytes) (rowsWritten bytes) ≡ listed (λ j. upperAt bytes (0 + j)) head
 unfolding firstLine processorsWritten rowsWritten head
 first-line-back bytes stands =
-    let digit = digit-stands bytes 0 0x31 6 stands (omega arith) in
+    let digit = digit-stands bytes 0 0x31 6 stands (omega arith) (omega arith) in
     rw (
-      first-kind (λ j. getD bytes (0 + j) 0) (zero-stands bytes 0 0x31 6 stands (omega arith)) (kind-stands bytes 0 0x31 6 stands (omega arith)),
+      first-kind (λ j. upperAt bytes (0 + j)) (zero-stands bytes 0 0x31 6 stands (omega arith) (omega arith))
+          (kind-stands bytes 0 0x31 6 stands (omega arith) (omega arith)),
       piece bytes 0 2 2 (λ i h. digit (2 + i) (omega arith) (omega arith)),
       piece bytes 0 4 2 (λ i h. digit (4 + i) (omega arith) (omega arith)),
-      ← end-stands bytes 0 0x31 6 stands (omega arith),
+      ← end-stands bytes 0 0x31 6 stands (omega arith) (omega arith),
     )
-    (first-cut (λ j. getD bytes (0 + j) 0))
+    (first-cut (λ j. upperAt bytes (0 + j)))
 
--- A row's line as written is what its numbers write.
+-- So is a row's line.
 row-line-back : (bytes : List ℕ) (at : ℕ) → LineAt bytes at 0x32 (line - 1)
-    → rowLine (number bytes (at + 2) 6) (number bytes (at + 8) 6) (number bytes (at + 14) 6) ≡ listed (λ j. getD bytes (at + j) 0) line
+    → rowLine (number bytes (at + 2) 6) (number bytes (at + 8) 6) (number bytes (at + 14) 6) ≡ listed (λ j. upperAt bytes (at + j)) line
 unfolding rowLine line
 row-line-back bytes at stands =
-    let digit = digit-stands bytes at 0x32 20 stands (omega arith) in
+    let digit = digit-stands bytes at 0x32 20 stands (omega arith) (omega arith) in
     rw (
-      row-kind (λ j. getD bytes (at + j) 0) (zero-stands bytes at 0x32 20 stands (omega arith)) (kind-stands bytes at 0x32 20 stands (omega arith)),
+      row-kind (λ j. upperAt bytes (at + j)) (zero-stands bytes at 0x32 20 stands (omega arith) (omega arith))
+          (kind-stands bytes at 0x32 20 stands (omega arith) (omega arith)),
       piece bytes at 2 6 (λ i h. digit (2 + i) (omega arith) (omega arith)),
       piece bytes at 8 6 (λ i h. digit (8 + i) (omega arith) (omega arith)),
       piece bytes at 14 6 (λ i h. digit (14 + i) (omega arith) (omega arith)),
-      ← end-stands bytes at 0x32 20 stands (omega arith),
+      ← end-stands bytes at 0x32 20 stands (omega arith) (omega arith),
     )
-    (row-cut (λ j. getD bytes (at + j) 0))
+    (row-cut (λ j. upperAt bytes (at + j)))
 
 -- Word w of the rows is the number that stands at its offset.
 word-back : (bytes : List ℕ) (w at : ℕ) → w < 3 * rowsWritten bytes → wordOffset w ≡ at → getD (wordsWritten bytes) w 0 ≡ number bytes at 6
@@ -117,8 +129,8 @@ module _ (bytes : List ℕ) (formed : Formed bytes) where
       ∙ sym (sheet-row (rowsWritten bytes) offset _ (omega arith) (omega arith))
       ∙ formed .each offset (omega arith)
 
-  -- The line of row k is what its words write.
-  row-back : (k : ℕ) → k < rowsWritten bytes → lineOf (sheetOf (wordsWritten bytes)) k ≡ listed (λ j. getD bytes (head + line * k + j) 0) line
+  -- The line of row k is, in upper case, what its words write.
+  row-back : (k : ℕ) → k < rowsWritten bytes → lineOf (sheetOf (wordsWritten bytes)) k ≡ listed (λ j. upperAt bytes (head + line * k + j)) line
   unfolding lineOf wordOffset line
   row-back k here =
       let words = wordsWritten bytes in
@@ -131,24 +143,26 @@ module _ (bytes : List ℕ) (formed : Formed bytes) where
       (row-line-back bytes at (row-line-stands k here))
 
   -- The lines of all rows.
-  rows-back : joined (lineOf (sheetOf (wordsWritten bytes))) (rowsWritten bytes) ≡ listed (λ i. getD bytes (head + i) 0) (line * rowsWritten bytes)
+  rows-back : joined (lineOf (sheetOf (wordsWritten bytes))) (rowsWritten bytes) ≡ listed (λ i. upperAt bytes (head + i)) (line * rowsWritten bytes)
   rows-back =
-      joined-same _ (λ k. listed (λ j. getD bytes (head + (k * line + j)) 0) line) (rowsWritten bytes)
+      joined-same _ (λ k. listed (λ j. upperAt bytes (head + (k * line + j))) line) (rowsWritten bytes)
       (λ k here.
       row-back k here
       ∙ listed-same _ _ line
-      (λ j h. ap (λ (at : ℕ). getD bytes at 0) (ap (λ (lines : ℕ). head + lines + j) (mul-comm line k) ∙ add-assoc head (k * line) j)))
-      ∙ joined-listed (λ i. getD bytes (head + i) 0) line (rowsWritten bytes)
-      ∙ ap (listed (λ i. getD bytes (head + i) 0)) (mul-comm (rowsWritten bytes) line)
+      (λ j h. ap (upperAt bytes) (ap (λ (lines : ℕ). head + lines + j) (mul-comm line k) ∙ add-assoc head (k * line) j)))
+      ∙ joined-listed (λ i. upperAt bytes (head + i)) line (rowsWritten bytes)
+      ∙ ap (listed (λ i. upperAt bytes (head + i))) (mul-comm (rowsWritten bytes) line)
 
-  -- The sheet that was read, written again, is the sheet.
-  pub sheet-back : sheetBytes (sheetOf (wordsWritten bytes)) (processorsWritten bytes) ≡ bytes
+  -- The sheet that was read, written again, is the sheet in upper case.
+  pub sheet-back : sheetBytes (sheetOf (wordsWritten bytes)) (processorsWritten bytes) ≡ map upper bytes
   unfolding sheetBytes sheetLength
   sheet-back =
       let count : (sheetOf (wordsWritten bytes)) .rows ≡ rowsWritten bytes = words-rows bytes in
-      let first : firstLine (processorsWritten bytes) (rowsWritten bytes) ≡ listed (λ j. getD bytes j 0) head =
-      first-line-back bytes first-line-stands ∙ listed-same _ _ head (λ j h. ap (λ (at : ℕ). getD bytes at 0) (zero-add j)) in
+      let size = head + line * rowsWritten bytes in
+      let first : firstLine (processorsWritten bytes) (rowsWritten bytes) ≡ listed (upperAt bytes) head =
+      first-line-back bytes first-line-stands ∙ listed-same _ _ head (λ j h. ap (upperAt bytes) (zero-add j)) in
       ap (λ (n : ℕ). firstLine (processorsWritten bytes) n ++ joined (lineOf (sheetOf (wordsWritten bytes))) n) count
       ∙ ap₂ _++_ first rows-back
-      ∙ sym (listed-cut (λ i. getD bytes i 0) head (line * rowsWritten bytes))
-      ∙ listed-back bytes (head + line * rowsWritten bytes) (formed .whole)
+      ∙ sym (listed-cut (upperAt bytes) head (line * rowsWritten bytes))
+      ∙ listed-same _ _ size (λ i h. sym (upper-at bytes i))
+      ∙ listed-back (map upper bytes) size (length-map bytes upper ∙ formed .whole)

@@ -1,42 +1,40 @@
--- The round trips, over what the two entries return and leave behind: a sheet that was read and is written comes back byte for byte, and
+-- The round trips, over what the two entries return and leave behind: a sheet that was read and is written comes back in upper case, and
 -- rows that were written and are read come back word for word, with the same processors.
 use mathlib.Core.Path.{_≡_, sym, _∙_, ap, ap₂}
-use mathlib.Core.List.{List, _++_}
+use mathlib.Core.List.{List, _++_, map}
 use Prim.Native.Nat.{ℕ, _*_, _≤_}
 use native.Mathlib.Omega.{arith}
-use lib.ListN.{length, take, drop}
+use lib.ListN.{length, take, drop, length-map}
 use lib.Seq.{take-at}
+use Rattle.digits.specs.Digits.{upper}
 use Rattle.rows.specs.Words.{sheetOf}
 use Rattle.rows.proofs.Checks.{words-laid}
 use Rattle.grammar.specs.Grammar.{sheetLength, processorsWritten, rowsWritten}
 use Rattle.grammar.specs.Lines.{sheetBytes, wordsWritten}
-use Rattle.grammar.specs.Sheets.{readSheet, wordsAfter, writeSheet, bytesAfter}
+use Rattle.grammar.specs.Sheets.{readSheet, wordsAfter, rowsRead, writeSheet, bytesAfter}
 use Rattle.grammar.proofs.Lines.{sheet-bytes-length}
-use Rattle.grammar.proofs.Refusals.{words-length, words-rows}
+use Rattle.grammar.proofs.Refusals.{words-rows}
 use Rattle.grammar.proofs.ReadBack.{sheet-back}
 use Rattle.grammar.proofs.WriteBack.{processors-same, rows-same, words-same, sound-formed}
 use Rattle.grammar.specs.Meaning.{Readable, Writable}
-use Rattle.grammar.proofs.Entries.{read-found, read-answers, read-leaves, write-found, write-answers, write-leaves}
+use Rattle.grammar.proofs.Entries.{read-found, read-answers, read-leaves, processors-read, words-read, write-found, write-answers, write-leaves}
 
--- A sheet that is not refused, read into any words and written into any space that holds it, comes back byte for byte.
+-- A sheet that is not refused, read into any words and written into any space that holds it, comes back in upper case, byte by byte.
 pub read-then-written : (bytes words out : List ℕ) → (readSheet bytes (length words)) .refusal ≡ 0 → length bytes ≤ length out
-    → let r = readSheet bytes (length words) in
-    let rows = take (3 * r .rows) (wordsAfter bytes words) in
-    (writeSheet rows (r .processors) (length out) ≡ record { refusal = 0; place = 0; length = length bytes })
-    × (bytesAfter rows (r .processors) out ≡ bytes ++ drop (length bytes) out)
+    → let rows = rowsRead bytes words in
+    let processors = (readSheet bytes (length words)) .processors in
+    (writeSheet rows processors (length out) ≡ record { refusal = 0; place = 0; length = length bytes })
+    × (bytesAfter rows processors out ≡ map upper bytes ++ drop (length bytes) out)
 read-then-written bytes words out none-holds room =
     let facts : Readable bytes (length words) = read-found bytes (length words) none-holds in
     let size : sheetLength ((sheetOf (wordsWritten bytes)) .rows) ≡ length bytes = ap sheetLength (words-rows bytes) ∙ sym (facts .formed .whole) in
     let fits : Writable (wordsWritten bytes) (processorsWritten bytes) (length out) =
     record { laid = facts .passed .laid; sizes = facts .passed .sizes; allowed = facts .passed .allowed; enough = rw size room } in
-    rw (
-      read-answers bytes (length words) facts,
-      read-leaves bytes words facts,
-      take-at (wordsWritten bytes) (drop (length (wordsWritten bytes)) words) (3 * rowsWritten bytes) (words-length bytes),
-    ) (
+    rw (words-read bytes words facts, processors-read bytes words facts) (
       write-answers (wordsWritten bytes) (processorsWritten bytes) (length out) fits ∙ ap (λ (n : ℕ). record { refusal = 0; place = 0; length = n }) size,
       write-leaves (wordsWritten bytes) (processorsWritten bytes) out fits
-          ∙ ap (λ (l : List ℕ). l ++ drop (length l) out) (sheet-back bytes (facts .formed)),
+          ∙ ap (λ (l : List ℕ). l ++ drop (length l) out) (sheet-back bytes (facts .formed))
+          ∙ ap (λ (n : ℕ). map upper bytes ++ drop n out) (length-map bytes upper),
     )
 
 -- Rows that are not refused, written into any space and read into any words that hold them, come back the same, with the same processors.

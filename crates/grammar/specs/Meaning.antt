@@ -7,6 +7,7 @@ use mathlib.Core.Option.{Option, none, some}
 use Prim.Native.Nat.{ℕ, suc, _*_, _≤_, _<_}
 use lib.ListN.{length, getD}
 use Rattle.model.specs.Sheet.{Sheet, Allowed, processorsAllowed}
+use Rattle.digits.specs.Digits.{upper}
 use Rattle.rows.specs.Words.{sheetOf}
 use Rattle.rows.specs.Checks.{notWhole}
 use Rattle.grammar.specs.Grammar.{sheetLength, sheetAllows, processorsWritten, rowsWritten}
@@ -42,6 +43,10 @@ FormMeans bytes (some place) = Breaks bytes place
 abbrev pub AlikeBelow : List ℕ → List ℕ → ℕ → Type 0
 AlikeBelow bytes other place = (i : ℕ) → i < place → getD other i 0 ≡ getD bytes i 0
 
+-- Two lists of bytes differ below a place in letter case at most.
+abbrev pub SameLettersBelow : List ℕ → List ℕ → ℕ → Type 0
+SameLettersBelow bytes other place = (i : ℕ) → i < place → upper (getD other i 0) ≡ upper (getD bytes i 0)
+
 -- A sheet of the form that has the bytes below a place.
 pub record SheetWith (bytes : List ℕ) (place : ℕ) : Type 0 where
   pub sheet : List ℕ
@@ -49,11 +54,12 @@ pub record SheetWith (bytes : List ℕ) (place : ℕ) : Type 0 where
   pub long : place ≤ length sheet
   pub alike : AlikeBelow bytes sheet place
 
--- The place tells how far the bytes could have been the front of a sheet: some sheet has all bytes below it, and none has the byte at it
--- too.
+-- The place tells how far the bytes could have been the front of a sheet: some sheet has all bytes below it, each as it is, and none has
+-- the byte at it too, in whatever case it and those below are written.
 pub record FarAs (bytes : List ℕ) (place : ℕ) : Type 0 where
   pub some-sheet : SheetWith bytes place
-  pub no-sheet : place < length bytes → (sheet : List ℕ) → Formed sheet → place < length sheet → AlikeBelow bytes sheet (suc place) → ⊥
+  pub no-sheet : place < length bytes → (sheet : List ℕ) → Formed sheet → place < length sheet
+      → SameLettersBelow bytes sheet (suc place) → ⊥
 
 -- What the checks after the form ask: a layout that is not broken, a sheet of allowed sizes, allowed processors, and room for the answer.
 pub record RowsFit (broken : Bool) (s : Sheet) (processors room need : ℕ) : Type 0 where

@@ -1,8 +1,9 @@
 -- Reading and writing a sheet: the answer and the final contents of lent space, refused or not.
+use mathlib.Core.Path.{_≡_}
 use mathlib.Core.List.{List, [], _∷_}
 use mathlib.Core.Option.{Option, none, some}
 use Prim.Native.Nat.{ℕ, _*_}
-use lib.ListN.{length}
+use lib.ListN.{length, take}
 use Rattle.laws.specs.Choice.{unlessRefused}
 use Rattle.laws.specs.Fill.{atFront}
 use Rattle.rows.specs.declared.Refusal.{Refusal}
@@ -47,6 +48,16 @@ readSheet bytes room = readAnswer (readRefusal bytes room) bytes
 
 unfoldable pub wordsAfter : List ℕ → List ℕ → List ℕ
 wordsAfter bytes words = atFront ((readRefusal bytes (length words)) .number) (wordsWritten bytes) words
+
+-- The words of the rows that were read: three a row, at the front of the lent words.
+abbrev pub rowsRead : List ℕ → List ℕ → List ℕ
+rowsRead bytes words = take (3 * (readSheet bytes (length words)) .rows) (wordsAfter bytes words)
+
+-- Two sheets read as equal, each into words of its own: the same processors, as many rows, and the same words of them.
+pub record ReadAlike (bytes other words space : List ℕ) : Type 0 where
+  pub processors : (readSheet bytes (length words)) .processors ≡ (readSheet other (length space)) .processors
+  pub rows : (readSheet bytes (length words)) .rows ≡ (readSheet other (length space)) .rows
+  pub each : rowsRead bytes words ≡ rowsRead other space
 
 -- The checks of writing: 2, 3, 4, 7, 8.
 unfoldable pub writeRefusal : List ℕ → ℕ → ℕ → Refusal

@@ -1,12 +1,11 @@
 -- The whole answer: a refused sheet gets its line, and a sheet that was read is refused later only for want of room.
 use mathlib.Core.Path.{_≡_, refl, sym, _∙_, ap, ap₂}
-use mathlib.Core.List.{List, _++_}
+use mathlib.Core.List.{List, _++_, map}
 use mathlib.Core.Logic.{_↔_}
 use Prim.Native.Nat.{ℕ, _*_, _≤_}
 use native.Mathlib.Decide.{ℕ-discrete}
 use native.Mathlib.Omega.{arith}
 use lib.ListN.{length, take, drop}
-use lib.Seq.{take-at}
 use Rattle.laws.specs.Fill.{atFront}
 use Rattle.laws.proofs.Choice.{not-refused, is-refused, one-answer}
 use Rattle.laws.proofs.Fill.{front-put}
@@ -16,14 +15,16 @@ use Rattle.model.proofs.Sheet.{few-rows}
 use Rattle.rows.specs.Words.{sheetOf}
 use Rattle.rows.specs.Checks.{refused, methodRefusal, roomRefusal}
 use Rattle.rows.proofs.Checks.{allowed-processors, enough-room, room-enough}
+use Rattle.digits.specs.Digits.{upper}
 use Rattle.grammar.specs.declared.Read.{Read}
 use Rattle.grammar.specs.declared.Written.{Written}
 use Rattle.grammar.specs.Grammar.{processorsWritten, rowsWritten}
 use Rattle.grammar.specs.Lines.{wordsWritten}
 use Rattle.grammar.specs.Sheets.{readRefusal, readSheet, wordsAfter, writeAnswer}
 use Rattle.grammar.specs.Meaning.{Readable}
-use Rattle.grammar.proofs.Refusals.{read-refused, words-length, write-accepted}
-use Rattle.grammar.proofs.Entries.{read-number, read-found, read-answers, read-leaves, written-number}
+use Rattle.grammar.proofs.Refusals.{read-refused, write-accepted}
+use Rattle.grammar.proofs.LetterCase.{processors-upper, words-upper, refusal-upper}
+use Rattle.grammar.proofs.Entries.{read-number, read-found, read-answers, words-read, written-number}
 use Rattle.report.specs.Lines.{resultHead, resultLine, resultLength, refusalLine}
 use Rattle.report.specs.Result.{resultOf, writeResultOf, resultSpaceOf, writeResult, resultAfter, mostWords, answerText, answerRefusal, answerSheet, answerAfter}
 use Rattle.report.proofs.Text.{refusal-length}
@@ -72,8 +73,8 @@ module _ (bytes zeros : List ℕ) (whole : length zeros ≡ 192) (read : Read) (
   -- The words at the front are the sheet's.
   pub words-are : take (3 * read .rows) (wordsAfter bytes zeros) ≡ wordsWritten bytes
   words-are =
-      ap₂ take (ap (λ (n : ℕ). 3 * n) rows-are) (read-leaves bytes zeros (rw whole facts))
-      ∙ take-at (wordsWritten bytes) (drop (length (wordsWritten bytes)) zeros) (3 * rowsWritten bytes) (words-length bytes)
+      ap (λ (r : Read). take (3 * r .rows) (wordsAfter bytes zeros)) (is-read ∙ ap (readSheet bytes) (sym whole))
+      ∙ words-read bytes zeros (rw whole facts)
 
   pub words-room : 3 * read .rows ≤ 192
   words-room = rw rows-are (facts .passed .enough)
@@ -116,6 +117,19 @@ whole-answer bytes out enough =
       sym (write-accepted (answerRefusal bytes (length out)) (length (answerText bytes)) room),
       sym (front-put ((answerRefusal bytes (length out)) .number) (answerText bytes) out room),
     )
+
+-- Letter case changes no answer: any bytes are answered as the same bytes in upper case are.
+text-upper : (bytes : List ℕ) → answerText (map upper bytes) ≡ answerText bytes
+unfolding answerText
+text-upper bytes = rw (refusal-upper bytes mostWords, words-upper bytes, processors-upper bytes)
+
+pub answer-upper : (bytes : List ℕ) (room : ℕ) → answerSheet (map upper bytes) room ≡ answerSheet bytes room
+unfolding answerSheet answerRefusal
+answer-upper bytes room = rw (text-upper bytes)
+
+pub answer-after-upper : (bytes out : List ℕ) → answerAfter (map upper bytes) out ≡ answerAfter bytes out
+unfolding answerAfter answerRefusal
+answer-after-upper bytes out = rw (text-upper bytes)
 
 -- An answer is refused only where it does not fit.
 pub answer-not-refused : (bytes : List ℕ) (room : ℕ) → ((answerSheet bytes room) .refusal ≡ 0) ↔ (length (answerText bytes) ≤ room)

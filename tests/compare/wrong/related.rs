@@ -5,6 +5,7 @@ use super::columns::taken_from;
 use super::density;
 use super::given_up::passes;
 use super::late::accepted_by_first;
+use super::text::{lower_case_from_zero, lower_case_text, upper_case_in_rows};
 use super::Slip;
 use second::call::{Call, Entry};
 use second::one_row::rta;
@@ -24,7 +25,7 @@ pub fn slips(relation: &str) -> Vec<Slip> {
 }
 
 /// The slips, by the relations that are to show them.
-const SLIPS: [(&str, Slip); 10] = [
+const SLIPS: [(&str, Slip); 15] = [
     (
         "both engines end at the same bounds and marks",
         ("refines in rounds by BCL", |program| {
@@ -89,6 +90,36 @@ const SLIPS: [(&str, Slip); 10] = [
             },
         ),
     ),
+    (
+        "letter case changes no answer",
+        ("counts lower case from 0", |program| {
+            program.digit = lower_case_from_zero
+        }),
+    ),
+    (
+        "letter case changes no answer",
+        ("refuses lower case in rows", |program| {
+            program.read = upper_case_in_rows
+        }),
+    ),
+    (
+        "a sheet read and written comes back in upper case",
+        ("writes lower case", |program| {
+            program.number_text = lower_case_text
+        }),
+    ),
+    (
+        "sheets read as equal exactly where letter case is all that differs",
+        ("reads every sheet for one processor", |program| {
+            program.read = one_processor
+        }),
+    ),
+    (
+        "sheets read as equal exactly where letter case is all that differs",
+        ("counts lower case from 0", |program| {
+            program.digit = lower_case_from_zero
+        }),
+    ),
 ];
 
 /// The call by BCL where it refines in rounds.
@@ -114,6 +145,15 @@ fn processor_more(program: &Program, text: &[u8]) -> Result<Written, usize> {
     let written = read(program, text)?;
     Ok(Written {
         processors: written.processors + 1,
+        ..written
+    })
+}
+
+/// Reads a sheet as one for one processor, whatever it says.
+fn one_processor(program: &Program, text: &[u8]) -> Result<Written, usize> {
+    let written = read(program, text)?;
+    Ok(Written {
+        processors: 1,
         ..written
     })
 }

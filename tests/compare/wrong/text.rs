@@ -3,14 +3,16 @@
 use super::Slip;
 use second::checks::Refusal;
 use second::program::{Program, DOCUMENT};
-use second::reader::{read, Written};
+use second::reader::{digit, read, Written};
 
 /// The slips: what a wrong program does, and the part that is exchanged.
-pub const SLIPS: [Slip; 7] = [
+pub const SLIPS: [Slip; 15] = [
     ("names the place one late", |program| {
         program.read = one_late
     }),
-    ("reads lower case", |program| program.digit = any_case),
+    ("refuses lower case", |program| {
+        program.digit = upper_case_only
+    }),
     ("takes one more line end", |program| {
         program.read = line_end_more
     }),
@@ -26,19 +28,91 @@ pub const SLIPS: [Slip; 7] = [
     ("tells a place in decimal", |program| {
         program.refusal_line = decimal_place
     }),
+    ("takes g for a digit", |program| {
+        program.digit = |byte| digit_or(byte, b'g', 16)
+    }),
+    ("takes G for a digit", |program| {
+        program.digit = |byte| digit_or(byte, b'G', 16)
+    }),
+    ("takes the byte before a for a digit", |program| {
+        program.digit = |byte| digit_or(byte, b'`', 9)
+    }),
+    ("counts lower case from 0", |program| {
+        program.digit = lower_case_from_zero
+    }),
+    ("refuses lower case in line one", |program| {
+        program.read = upper_case_in_line_one
+    }),
+    ("refuses lower case in rows", |program| {
+        program.read = upper_case_in_rows
+    }),
+    ("writes lower case", |program| {
+        program.number_text = lower_case_text
+    }),
+    ("sets bit 5 of bytes that are no letters", |program| {
+        program.read = with_bit_5
+    }),
 ];
 
 /// The slips that every text near a sheet's must show.
-pub const NEAR: [Slip; 4] = [SLIPS[0], SLIPS[1], SLIPS[2], SLIPS[3]];
+pub const NEAR: [Slip; 11] = [
+    SLIPS[0], SLIPS[1], SLIPS[2], SLIPS[3], SLIPS[7], SLIPS[8], SLIPS[9], SLIPS[10], SLIPS[11],
+    SLIPS[12], SLIPS[14],
+];
 
 /// The wrong byte's offset and one more.
 fn one_late(program: &Program, text: &[u8]) -> Result<Written, usize> {
     read(program, text).map_err(|place| place + 1)
 }
 
-/// A digit of either case.
-fn any_case(byte: u8) -> Option<u32> {
-    (byte as char).to_digit(16)
+/// A digit of upper case.
+fn upper_case_only(byte: u8) -> Option<u32> {
+    (!byte.is_ascii_lowercase()).then(|| digit(byte)).flatten()
+}
+
+/// A digit, or one more byte with a value.
+fn digit_or(byte: u8, more: u8, value: u32) -> Option<u32> {
+    digit(byte).or((byte == more).then_some(value))
+}
+
+/// A digit whose value is counted from 0 in lower case.
+pub fn lower_case_from_zero(byte: u8) -> Option<u32> {
+    digit(byte).map(|value| value - 10 * byte.is_ascii_lowercase() as u32)
+}
+
+/// Reads a text whose first so many bytes are held to be right only in upper case.
+fn refusing_lower_case(
+    program: &Program,
+    text: &[u8],
+    places: std::ops::Range<usize>,
+) -> Result<Written, usize> {
+    let read = read(program, text);
+    let is_lower = |&place: &usize| places.contains(&place) && text[place].is_ascii_lowercase();
+    match (0..text.len()).find(is_lower) {
+        Some(place) if read.as_ref().map_or_else(|&wrong| place < wrong, |_| true) => Err(place),
+        _ => read,
+    }
+}
+
+/// Reads a text whose line one has to be in upper case.
+fn upper_case_in_line_one(program: &Program, text: &[u8]) -> Result<Written, usize> {
+    refusing_lower_case(program, text, 0..7)
+}
+
+/// Reads a text whose rows have to be in upper case.
+pub fn upper_case_in_rows(program: &Program, text: &[u8]) -> Result<Written, usize> {
+    refusing_lower_case(program, text, 7..usize::MAX)
+}
+
+/// Reads a text with bit 5 set in every byte that has bit 4, as if bit 5 told no more than the case.
+fn with_bit_5(program: &Program, text: &[u8]) -> Result<Written, usize> {
+    let with_it = |&byte: &u8| byte | (byte & 0x10) << 1;
+    read(program, &text.iter().map(with_it).collect::<Vec<u8>>())
+}
+
+/// Digits in lower case.
+pub fn lower_case_text(number: u64, digits: usize) -> String {
+    (DOCUMENT.number_text)(number, digits).to_lowercase()
 }
 
 /// Reads a text with one more 0A at its end.

@@ -1,0 +1,74 @@
+-- Upper case: it moves six bytes, each to another of the same value, and no byte to one below `A`. So it changes nothing that is read, and
+-- it is what comes back from reading and writing a digit.
+use mathlib.Core.Path.{_≡_, refl, sym, _∙_, ap}
+use mathlib.Core.Bool.{true, false}
+use mathlib.Core.List.{List, [], _∷_, map}
+use Prim.Native.Nat.{ℕ, zero, suc, _+_, _-_, _≤_, _<_}
+use native.Mathlib.Omega.{arith}
+use borrow.Author.Tests.{ltb-true, ne-eqb}
+use lib.Dec.{eqb}
+use lib.ListN.{getD}
+use Rattle.laws.proofs.Choice.{pick-yes, pick-no}
+use Rattle.digits.specs.Digits.{digitValue, isDigit, digitByte, upper}
+use Rattle.digits.proofs.Digit.{in-or-out, within-inside, within-outside, value-decimal, value-upper, value-lower, byte-decimal, byte-letter, by-range}
+
+-- Upper case moves `a` to `f`, and no other byte.
+pub upper-moves : (byte : ℕ) → 0x61 ≤ byte → byte ≤ 0x66 → upper byte ≡ byte - 0x20
+unfolding upper
+upper-moves byte from upto = pick-yes _ _ _ (within-inside 0x61 0x66 byte from upto) ∙ omega arith
+
+pub upper-stays : (byte : ℕ) → (0x61 ≤ byte → byte ≤ 0x66 → ⊥) → upper byte ≡ byte
+unfolding upper
+upper-stays byte no-lower = pick-no _ _ _ (within-outside 0x61 0x66 byte no-lower)
+
+-- What holds of a byte that moves, and of one that stays, holds of every byte.
+by-case : {P : Type 0} (byte : ℕ) → (0x61 ≤ byte → byte ≤ 0x66 → upper byte ≡ byte - 0x20 → P) → (upper byte ≡ byte → P) → P
+unfolding upper
+by-case byte moves stays =
+    in-or-out 0x61 0x66 byte (λ from upto. moves from upto (upper-moves byte from upto)) (λ no-lower. stays (pick-no _ _ _ no-lower))
+
+-- A byte counts the same in upper case.
+pub upper-value : (byte : ℕ) → digitValue (upper byte) ≡ digitValue byte
+upper-value byte =
+    by-case byte
+    (λ from upto moved. rw (moved, value-lower byte from upto) (value-upper (byte - 0x20) (omega arith) (omega arith) ∙ omega arith))
+    (λ stayed. ap digitValue stayed)
+
+-- So bytes that are the same in upper case count the same.
+pub same-value : (byte other : ℕ) → upper byte ≡ upper other → digitValue byte ≡ digitValue other
+same-value byte other same = sym (upper-value byte) ∙ ap digitValue same ∙ upper-value other
+
+-- No byte becomes one below `A`, or stops being one, by its case.
+pub upper-apart : (byte sign : ℕ) → sign < 0x41 → eqb (upper byte) sign ≡ eqb byte sign
+upper-apart byte sign below =
+    by-case byte
+    (λ from upto moved. ne-eqb (upper byte) sign (λ same. omega arith) ∙ sym (ne-eqb byte sign (λ same. omega arith)))
+    (λ stayed. ap (λ (b : ℕ). eqb b sign) stayed)
+
+-- The byte that is written for a digit byte that was read is that byte in upper case.
+pub byte-back : (byte : ℕ) → isDigit byte ≡ true → digitByte (digitValue byte) ≡ upper byte
+unfolding isDigit
+byte-back byte digit =
+    let small : digitValue byte < 16 = ltb-true (digitValue byte) 16 digit in
+    by-range byte
+    (λ from upto.
+    let value : digitValue byte ≡ byte - 0x30 = value-decimal byte from upto in
+    rw (byte-decimal (digitValue byte) (omega arith), upper-stays byte (λ above below. omega arith)) (omega arith))
+    (λ from upto.
+    let value : digitValue byte ≡ byte - 0x41 + 10 = value-upper byte from upto in
+    rw (byte-letter (digitValue byte) (omega arith), upper-stays byte (λ above below. omega arith)) (omega arith))
+    (λ from upto.
+    let value : digitValue byte ≡ byte - 0x61 + 10 = value-lower byte from upto in
+    rw (byte-letter (digitValue byte) (omega arith), upper-moves byte from upto) (omega arith))
+    (λ none. absurd (omega arith))
+
+-- In upper case a byte stays as it is.
+pub upper-twice : (byte : ℕ) → upper (upper byte) ≡ upper byte
+upper-twice byte =
+    by-case byte (λ from upto moved. rw moved (upper-stays (byte - 0x20) (λ above below. omega arith))) (λ stayed. ap upper stayed)
+
+-- What stands at a place of bytes in upper case; past the end it is 0 as before.
+pub upper-at : (bytes : List ℕ) (i : ℕ) → getD (map upper bytes) i 0 ≡ upper (getD bytes i 0)
+upper-at [] i = sym (upper-stays 0 (λ above below. omega arith))
+upper-at (byte ∷ rest) zero = refl
+upper-at (byte ∷ rest) (suc i) = upper-at rest i
