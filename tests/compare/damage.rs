@@ -21,10 +21,10 @@ const WAYS: [Damage; 12] = [
     lines_swapped,
 ];
 
-/// Bytes that a careless reader may take: near the digits of either case, other line ends, 00.
-const NEAR: [u8; 20] = [
-    0x00, 0x0A, 0x0D, 0x09, 0x20, b'/', b'0', b'9', b':', b'@', b'A', b'F', b'G', b'`', b'a', b'f',
-    b'g', 0x7F, 0x80, 0xFF,
+/// Bytes that a careless reader may take: near the digits of either case, digits but for bit 5, other line ends, 00.
+const NEAR: [u8; 22] = [
+    0x00, 0x0A, 0x0D, 0x09, 0x10, 0x19, 0x20, b'/', b'0', b'9', b':', b'@', b'A', b'F', b'G', b'`',
+    b'a', b'f', b'g', 0x7F, 0x80, 0xFF,
 ];
 
 /// A text with one damage, at times two.

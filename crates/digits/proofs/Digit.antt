@@ -8,63 +8,66 @@ use native.Mathlib.Nat.{mod-mod, mod-eq-of-lt}
 use native.Mathlib.Omega.{arith}
 use borrow.Author.Tests.{le-leb, leb-true, lt-ltb, le-ltb}
 use lib.Dec.{leb}
-use Rattle.laws.proofs.Choice.{pick-yes, pick-no, and-left, and-right, and-both}
+use Rattle.laws.specs.Choice.{pick}
+use Rattle.laws.proofs.Choice.{never-both, pick-yes, pick-no, and-left, and-right, and-both}
 use Rattle.laws.proofs.Order.{below-or-from}
 use Rattle.digits.specs.Digits.{within, digitValue, isDigit, digitByte}
 
--- A byte lies in a range or it does not.
-pub in-or-out : {P : Type 0} (first last byte : ℕ) → (first ≤ byte → byte ≤ last → P) → (within first last byte ≡ false → P) → P
+-- A choice by a range: in it the one, and outside it the other.
+pub by-within : (P : ℕ → Type 0) (first last byte one other : ℕ) → (first ≤ byte → byte ≤ last → P one)
+    → ((first ≤ byte → byte ≤ last → ⊥) → P other) → P (pick (within first last byte) one other)
 unfolding within
-in-or-out {P} first last byte inside outside = split (within first last byte) refl
+by-within P first last byte one other inside outside = split (within first last byte) refl
   where
-    split : (b : Bool) → within first last byte ≡ b → P
+    split : (b : Bool) → within first last byte ≡ b → P (pick b one other)
     split true lies =
         inside (leb-true first byte (and-left (leb first byte) (leb byte last) lies))
         (leb-true byte last (and-right (leb first byte) (leb byte last) lies))
-    split false lies-not = outside lies-not
-
-pub within-inside : (first last byte : ℕ) → first ≤ byte → byte ≤ last → within first last byte ≡ true
-unfolding within
-within-inside first last byte from upto = and-both (leb first byte) (leb byte last) (le-leb first byte from) (le-leb byte last upto)
-
-pub within-outside : (first last byte : ℕ) → (first ≤ byte → byte ≤ last → ⊥) → within first last byte ≡ false
-within-outside first last byte out = in-or-out first last byte (λ from upto. absurd (out from upto)) (λ lies-not. lies-not)
+    split false lies-not =
+        outside
+        (λ from upto. never-both (and-both (leb first byte) (leb byte last) (le-leb first byte from) (le-leb byte last upto)) lies-not)
 
 -- The value of a byte in each range, and of one in none.
 pub value-decimal : (byte : ℕ) → 0x30 ≤ byte → byte ≤ 0x39 → digitValue byte ≡ byte - 0x30
 unfolding digitValue
-value-decimal byte from upto = pick-yes _ _ _ (within-inside 0x30 0x39 byte from upto)
+value-decimal byte from upto =
+    by-within (λ value. value ≡ byte - 0x30) _ _ byte _ _ (λ above below. refl) (λ out. absurd (out (omega arith) (omega arith)))
 
 pub value-upper : (byte : ℕ) → 0x41 ≤ byte → byte ≤ 0x46 → digitValue byte ≡ byte - 0x41 + 10
 unfolding digitValue
 value-upper byte from upto =
-    pick-no _ _ _ (within-outside 0x30 0x39 byte (λ above below. omega arith)) ∙ pick-yes _ _ _ (within-inside 0x41 0x46 byte from upto)
+    let counts : ℕ → Type 0 = λ value. value ≡ byte - 0x41 + 10 in
+    by-within counts _ _ byte _ _ (λ above below. absurd (omega arith))
+    (λ no-decimal. by-within counts _ _ byte _ _ (λ above below. refl) (λ out. absurd (out (omega arith) (omega arith))))
 
 pub value-lower : (byte : ℕ) → 0x61 ≤ byte → byte ≤ 0x66 → digitValue byte ≡ byte - 0x61 + 10
 unfolding digitValue
 value-lower byte from upto =
-    pick-no _ _ _ (within-outside 0x30 0x39 byte (λ above below. omega arith))
-    ∙ pick-no _ _ _ (within-outside 0x41 0x46 byte (λ above below. omega arith))
-    ∙ pick-yes _ _ _ (within-inside 0x61 0x66 byte from upto)
-
-value-outside : (byte : ℕ) → within 0x30 0x39 byte ≡ false → within 0x41 0x46 byte ≡ false → within 0x61 0x66 byte ≡ false → digitValue byte ≡ 16
-unfolding digitValue
-value-outside byte no-decimal no-upper no-lower = pick-no _ _ _ no-decimal ∙ pick-no _ _ _ no-upper ∙ pick-no _ _ _ no-lower
+    let counts : ℕ → Type 0 = λ value. value ≡ byte - 0x61 + 10 in
+    by-within counts _ _ byte _ _ (λ above below. absurd (omega arith))
+    (λ no-decimal.
+    by-within counts _ _ byte _ _ (λ above below. absurd (omega arith))
+    (λ no-upper. by-within counts _ _ byte _ _ (λ above below. refl) (λ out. absurd (out (omega arith) (omega arith)))))
 
 pub value-none : (byte : ℕ) → (0x30 ≤ byte → byte ≤ 0x39 → ⊥) → (0x41 ≤ byte → byte ≤ 0x46 → ⊥) → (0x61 ≤ byte → byte ≤ 0x66 → ⊥)
     → digitValue byte ≡ 16
+unfolding digitValue
 value-none byte no-decimal no-upper no-lower =
-    value-outside byte (within-outside 0x30 0x39 byte no-decimal) (within-outside 0x41 0x46 byte no-upper)
-    (within-outside 0x61 0x66 byte no-lower)
+    let counts : ℕ → Type 0 = λ value. value ≡ 16 in
+    by-within counts _ _ byte _ _ (λ from upto. absurd (no-decimal from upto))
+    (λ out.
+    by-within counts _ _ byte _ _ (λ from upto. absurd (no-upper from upto))
+    (λ out. by-within counts _ _ byte _ _ (λ from upto. absurd (no-lower from upto)) (λ out. refl)))
 
 -- Every byte lies in one of the three ranges, or counts 16.
 pub by-range : {P : Type 0} (byte : ℕ) → (0x30 ≤ byte → byte ≤ 0x39 → P) → (0x41 ≤ byte → byte ≤ 0x46 → P)
     → (0x61 ≤ byte → byte ≤ 0x66 → P) → (digitValue byte ≡ 16 → P) → P
-by-range byte decimal upper lower none =
-    in-or-out 0x30 0x39 byte decimal
+by-range {P} byte decimal upper lower none =
+    let always : ℕ → Type 0 = λ _. P in
+    by-within always 0x30 0x39 byte 0 0 decimal
     (λ no-decimal.
-    in-or-out 0x41 0x46 byte upper
-    (λ no-upper. in-or-out 0x61 0x66 byte lower (λ no-lower. none (value-outside byte no-decimal no-upper no-lower))))
+    by-within always 0x41 0x46 byte 0 0 upper
+    (λ no-upper. by-within always 0x61 0x66 byte 0 0 lower (λ no-lower. none (value-none byte no-decimal no-upper no-lower))))
 
 -- The byte of a number whose last digit is below 10, and of one whose last digit is a letter.
 pub byte-decimal : (value : ℕ) → value % 16 < 10 → digitByte value ≡ 0x30 + value % 16

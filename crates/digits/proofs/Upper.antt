@@ -1,31 +1,31 @@
 -- Upper case: it moves six bytes, each to another of the same value, and no byte to one below `A`. So it changes nothing that is read, and
 -- it is what comes back from reading and writing a digit.
 use mathlib.Core.Path.{_≡_, refl, sym, _∙_, ap}
-use mathlib.Core.Bool.{true, false}
+use mathlib.Core.Bool.{true}
 use mathlib.Core.List.{List, [], _∷_, map}
 use Prim.Native.Nat.{ℕ, zero, suc, _+_, _-_, _≤_, _<_}
 use native.Mathlib.Omega.{arith}
 use borrow.Author.Tests.{ltb-true, ne-eqb}
 use lib.Dec.{eqb}
 use lib.ListN.{getD}
-use Rattle.laws.proofs.Choice.{pick-yes, pick-no}
 use Rattle.digits.specs.Digits.{digitValue, isDigit, digitByte, upper}
-use Rattle.digits.proofs.Digit.{in-or-out, within-inside, within-outside, value-decimal, value-upper, value-lower, byte-decimal, byte-letter, by-range}
+use Rattle.digits.proofs.Digit.{by-within, value-decimal, value-upper, value-lower, byte-decimal, byte-letter, by-range}
 
 -- Upper case moves `a` to `f`, and no other byte.
 pub upper-moves : (byte : ℕ) → 0x61 ≤ byte → byte ≤ 0x66 → upper byte ≡ byte - 0x20
 unfolding upper
-upper-moves byte from upto = pick-yes _ _ _ (within-inside 0x61 0x66 byte from upto) ∙ omega arith
+upper-moves byte from upto =
+    by-within (λ moved. moved ≡ byte - 0x20) _ _ byte _ _ (λ above below. omega arith) (λ out. absurd (out (omega arith) (omega arith)))
 
 pub upper-stays : (byte : ℕ) → (0x61 ≤ byte → byte ≤ 0x66 → ⊥) → upper byte ≡ byte
 unfolding upper
-upper-stays byte no-lower = pick-no _ _ _ (within-outside 0x61 0x66 byte no-lower)
+upper-stays byte no-lower =
+    by-within (λ moved. moved ≡ byte) _ _ byte _ _ (λ from upto. absurd (no-lower (omega arith) (omega arith))) (λ out. refl)
 
 -- What holds of a byte that moves, and of one that stays, holds of every byte.
 by-case : {P : Type 0} (byte : ℕ) → (0x61 ≤ byte → byte ≤ 0x66 → upper byte ≡ byte - 0x20 → P) → (upper byte ≡ byte → P) → P
-unfolding upper
-by-case byte moves stays =
-    in-or-out 0x61 0x66 byte (λ from upto. moves from upto (upper-moves byte from upto)) (λ no-lower. stays (pick-no _ _ _ no-lower))
+by-case {P} byte moves stays =
+    by-within (λ _. P) 0x61 0x66 byte 0 0 (λ from upto. moves from upto (upper-moves byte from upto)) (λ out. stays (upper-stays byte out))
 
 -- A byte counts the same in upper case.
 pub upper-value : (byte : ℕ) → digitValue (upper byte) ≡ digitValue byte

@@ -4,14 +4,12 @@ use mathlib.Core.Path.{_≡_, sym, _∙_, ap}
 use mathlib.Core.List.{List, map}
 use Prim.Native.Nat.{ℕ, _+_, _*_, _-_, _%_, _<_}
 use native.Mathlib.Omega.{arith}
-use lib.Dec.{ltb}
 use lib.ListN.{length, getD, length-map}
 use Rattle.laws.proofs.Fill.{listed-same}
 use Rattle.laws.proofs.Search.{least-same}
 use Rattle.digits.specs.Digits.{isDigit, upper}
 use Rattle.digits.proofs.Upper.{upper-value, upper-apart, upper-at}
 use Rattle.digits.proofs.Number.{number-upper}
-use Rattle.rows.specs.declared.Refusal.{Refusal}
 use Rattle.grammar.specs.Grammar.{head, line, sheetLength, lineAllows, sheetAllows, processorsWritten, rowsWritten, wrongAt, firstWrong}
 use Rattle.grammar.specs.Lines.{wordOffset, wordWritten, wordsWritten}
 use Rattle.grammar.specs.Sheets.{formedRefusal, readRefusal, readAnswer, readSheet, wordsAfter}
