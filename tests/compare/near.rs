@@ -7,11 +7,10 @@ use second::call::{Call, Entry};
 use second::program::Program;
 use second::random::Random;
 
-/// A sheet of two rows with all sorts of digits, in upper case and as two editors may leave it.
-const SHEETS: [&[u8]; 3] = [
+/// A sheet of two rows with all sorts of digits, in upper case and in lower case.
+const SHEETS: [&[u8]; 2] = [
     b"010A02\n02000009000C8B0F423F\n020000A10DEF560F4240\n",
     b"010a02\n02000009000c8b0f423f\n020000a10def560f4240\n",
-    b"010a02\n02000009000C8b0F423f\n020000a10DeF560f4240\n",
 ];
 
 /// A sheet with what stands at some places exchanged for other bytes.

@@ -54,6 +54,14 @@ const DENSITIES: [&str; 8] = [
     "no",
 ];
 
+/// The kinds of sheets that are read, by the case of their letters.
+const LETTERS: [&str; 4] = [
+    "done without letters",
+    "done in upper case",
+    "done in lower case",
+    "done in both cases",
+];
+
 /// The kinds of answer that an entry has: what it says where it does not refuse, and each refusal.
 fn kinds_of_answer(entry: Entry) -> Vec<String> {
     let said: &[&str] = match entry.question() {
@@ -61,7 +69,8 @@ fn kinds_of_answer(entry: Entry) -> Vec<String> {
         Entry::OneProcessor => &["undecided", "miss", "fits"],
         Entry::Density => &DENSITIES,
         Entry::WriteResult | Entry::AnswerSheet => &["accepted", "not accepted"],
-        Entry::ReadSheet | Entry::WriteSheet => &["done"],
+        Entry::ReadSheet => &LETTERS,
+        Entry::WriteSheet => &["done"],
         _ => &["all marked", "some marked", "none marked"],
     };
     let form: &[u32] = if matches!(entry, Entry::ReadSheet | Entry::AnswerSheet) {
@@ -100,7 +109,8 @@ fn kind_of_answer(call: &Call, seen: &Seen) -> String {
         }
         (Entry::Density, answer) => kind_of_density(call, answer),
         (Entry::WriteResult | Entry::AnswerSheet, _) => kind_of_text(&seen.after),
-        (Entry::ReadSheet | Entry::WriteSheet, _) => "done".to_string(),
+        (Entry::ReadSheet, _) => kind_of_letters(&call.text),
+        (Entry::WriteSheet, _) => "done".to_string(),
         (_, 0) => "none marked".to_string(),
         (_, marks) if marks == all => "all marked".to_string(),
         _ => "some marked".to_string(),
@@ -124,6 +134,13 @@ fn kind_of_density(call: &Call, answer: u64) -> String {
         _ => "no answer",
     };
     kind.to_string()
+}
+
+/// The kind of a sheet that was read, by the case of its letters.
+fn kind_of_letters(text: &[u8]) -> String {
+    let upper = text.iter().any(u8::is_ascii_uppercase);
+    let lower = text.iter().any(u8::is_ascii_lowercase);
+    LETTERS[upper as usize + 2 * lower as usize].to_string()
 }
 
 /// The kind of a result sheet or of a line that tells a refusal.

@@ -137,10 +137,11 @@ fn in_lengths() -> Vec<Slip> {
 
 /// The wrong programs whose slips answers must show, whichever entry gives them.
 fn shown_by_any() -> Vec<Wrong> {
-    let lists: [&[Slip]; 7] = [
+    let lists: [&[Slip]; 8] = [
         &analysis::SLIPS,
         &demand::SLIPS,
         &quick::SLIPS,
+        &text::NEAR,
         &text::SLIPS,
         &checks::SLIPS,
         &late::SLIPS,

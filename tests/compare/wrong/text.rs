@@ -5,13 +5,10 @@ use second::checks::Refusal;
 use second::program::{Program, DOCUMENT};
 use second::reader::{digit, read, Written};
 
-/// The slips: what a wrong program does, and the part that is exchanged.
-pub const SLIPS: [Slip; 15] = [
+/// The slips that every text near a sheet's must show: what a wrong program does, and the part that is exchanged.
+pub const NEAR: [Slip; 12] = [
     ("names the place one late", |program| {
         program.read = one_late
-    }),
-    ("refuses lower case", |program| {
-        program.digit = upper_case_only
     }),
     ("takes one more line end", |program| {
         program.read = line_end_more
@@ -19,14 +16,8 @@ pub const SLIPS: [Slip; 15] = [
     ("takes 0D before 0A", |program| {
         program.read = without_returns
     }),
-    ("refuses 65 rows before their form", |program| {
-        program.read = many_rows_first
-    }),
-    ("writes little end first", |program| {
-        program.number_text = little_end_first
-    }),
-    ("tells a place in decimal", |program| {
-        program.refusal_line = decimal_place
+    ("refuses lower case", |program| {
+        program.digit = upper_case_only
     }),
     ("takes g for a digit", |program| {
         program.digit = |byte| digit_or(byte, b'g', 16)
@@ -46,18 +37,28 @@ pub const SLIPS: [Slip; 15] = [
     ("refuses lower case in rows", |program| {
         program.read = upper_case_in_rows
     }),
-    ("writes lower case", |program| {
-        program.number_text = lower_case_text
+    ("refuses a second letter in lower case", |program| {
+        program.read = one_letter_in_lower_case
     }),
     ("sets bit 5 of bytes that are no letters", |program| {
         program.read = with_bit_5
     }),
 ];
 
-/// The slips that every text near a sheet's must show.
-pub const NEAR: [Slip; 11] = [
-    SLIPS[0], SLIPS[1], SLIPS[2], SLIPS[3], SLIPS[7], SLIPS[8], SLIPS[9], SLIPS[10], SLIPS[11],
-    SLIPS[12], SLIPS[14],
+/// The other slips.
+pub const SLIPS: [Slip; 4] = [
+    ("refuses 65 rows before their form", |program| {
+        program.read = many_rows_first
+    }),
+    ("writes little end first", |program| {
+        program.number_text = little_end_first
+    }),
+    ("writes lower case", |program| {
+        program.number_text = lower_case_text
+    }),
+    ("tells a place in decimal", |program| {
+        program.refusal_line = decimal_place
+    }),
 ];
 
 /// The wrong byte's offset and one more.
@@ -80,28 +81,36 @@ pub fn lower_case_from_zero(byte: u8) -> Option<u32> {
     digit(byte).map(|value| value - 10 * byte.is_ascii_lowercase() as u32)
 }
 
-/// Reads a text whose first so many bytes are held to be right only in upper case.
-fn refusing_lower_case(
-    program: &Program,
-    text: &[u8],
-    places: std::ops::Range<usize>,
-) -> Result<Written, usize> {
-    let read = read(program, text);
-    let is_lower = |&place: &usize| places.contains(&place) && text[place].is_ascii_lowercase();
-    match (0..text.len()).find(is_lower) {
-        Some(place) if read.as_ref().map_or_else(|&wrong| place < wrong, |_| true) => Err(place),
-        _ => read,
+/// Reads a text that is wrong at some place too, if there is one.
+fn wrong_at_too(program: &Program, text: &[u8], place: Option<usize>) -> Result<Written, usize> {
+    match (read(program, text), place) {
+        (Err(wrong), Some(place)) => Err(wrong.min(place)),
+        (Ok(_), Some(place)) => Err(place),
+        (read, None) => read,
     }
+}
+
+/// The places of letters in lower case.
+fn in_lower_case(text: &[u8]) -> impl Iterator<Item = usize> + '_ {
+    (0..text.len()).filter(|&place| text[place].is_ascii_lowercase())
 }
 
 /// Reads a text whose line one has to be in upper case.
 fn upper_case_in_line_one(program: &Program, text: &[u8]) -> Result<Written, usize> {
-    refusing_lower_case(program, text, 0..7)
+    let place = in_lower_case(text).find(|&place| place < 7);
+    wrong_at_too(program, text, place)
 }
 
 /// Reads a text whose rows have to be in upper case.
 pub fn upper_case_in_rows(program: &Program, text: &[u8]) -> Result<Written, usize> {
-    refusing_lower_case(program, text, 7..usize::MAX)
+    let place = in_lower_case(text).find(|&place| place >= 7);
+    wrong_at_too(program, text, place)
+}
+
+/// Reads a text that may have one letter in lower case.
+fn one_letter_in_lower_case(program: &Program, text: &[u8]) -> Result<Written, usize> {
+    let place = in_lower_case(text).nth(1);
+    wrong_at_too(program, text, place)
 }
 
 /// Reads a text with bit 5 set in every byte that has bit 4, as if bit 5 told no more than the case.
