@@ -1,12 +1,14 @@
 -- A line written from its front: digits are put behind what stands there already, and its last byte ends it.
 use mathlib.Core.Path.{_≡_, refl, _∙_, ap}
-use mathlib.Core.List.{List, [], _∷_, _++_}
+use mathlib.Core.List.{List, [], _∷_, _++_, map}
 use Prim.Native.Nat.{ℕ, suc, _+_, _≤_, _<_}
 use native.Mathlib.Omega.{arith}
 use lib.ListN.{length, getD, drop, set, length-append, length-drop, length-set, drop-of-length-le}
 use lib.Seq.{drop-cons, set-at}
-use Rattle.digits.specs.Digits.{digits, withDigits}
-use Rattle.digits.proofs.Number.{digits-length, digits-behind}
+use Rattle.laws.proofs.Cuts.{mapped-append}
+use Rattle.digits.specs.Digits.{upper, digits, withDigits}
+use Rattle.digits.proofs.Upper.{upper-stays}
+use Rattle.digits.proofs.Number.{digits-length, digits-upper, digits-behind}
 
 -- A line in the making: the front is written up to `at`, and behind it stands what stood there before.
 pub record Begun (before front : List ℕ) (at : ℕ) (now : List ℕ) : Type 0 where
@@ -25,6 +27,14 @@ with-digits {before} {front} {now} {next} {at} count value begun room put =
       size = length-append front (digits count value) ∙ rw (begun .size, digits-length count value);
       stands = put ∙ ap (withDigits at count value) (begun .stands) ∙ digits-behind front before at count value (begun .size) room;
     }
+
+-- Digits put behind a front in upper case, and 0A behind them: all of it is in upper case.
+pub with-digits-upper : (front : List ℕ) (count value : ℕ) → map upper front ≡ front
+    → map upper (front ++ digits count value) ≡ front ++ digits count value
+with-digits-upper front count value same = mapped-append upper front (digits count value) same (digits-upper count value)
+
+pub line-upper : (front : List ℕ) → map upper front ≡ front → map upper (front ++ (0x0A ∷ [])) ≡ front ++ (0x0A ∷ [])
+line-upper front same = mapped-append upper front (0x0A ∷ []) same (ap (λ (b : ℕ). b ∷ []) (upper-stays 0x0A (λ above below. omega arith)))
 
 -- The last byte of a line in the making is inside it, and stored there it leaves the length as it was.
 pub end-inside : {before front now : List ℕ} {at : ℕ} → Begun before front at now → length before ≡ at + 1 → at < length now

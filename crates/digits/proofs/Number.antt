@@ -13,9 +13,10 @@ use lib.Seq.{getD-at, set-split, drop-at, drop-drop, length-take-le, append-snoc
 use Rattle.laws.specs.Fill.{listed}
 use Rattle.laws.proofs.Choice.{pick-yes, pick-no}
 use Rattle.laws.proofs.Fill.{put-block}
+use Rattle.laws.proofs.Cuts.{mapped-append}
 use Rattle.digits.specs.Digits.{digitValue, isDigit, digitByte, upper, number, digits, withDigits}
 use Rattle.digits.proofs.Digit.{value-limit, value-of-byte, byte-last}
-use Rattle.digits.proofs.Upper.{same-value, byte-back, upper-twice, upper-at}
+use Rattle.digits.proofs.Upper.{same-value, byte-back, byte-upper, upper-twice, upper-at}
 
 -- One digit more.
 pub number-more : (bytes : List ℕ) (at count : ℕ)
@@ -74,6 +75,13 @@ unfolding digits
 digits-length zero value = refl
 digits-length (suc count) value =
     omega (arith, length-append (digits count (value / 16)) (digitByte value ∷ []), digits-length count (value / 16))
+
+-- All of them in upper case.
+pub digits-upper : (count value : ℕ) → map upper (digits count value) ≡ digits count value
+unfolding digits
+digits-upper zero value = refl
+digits-upper (suc count) value =
+    mapped-append upper (digits count (value / 16)) (digitByte value ∷ []) (digits-upper count (value / 16)) (ap (λ (b : ℕ). b ∷ []) (byte-upper value))
 
 -- The last digit, and those before it.
 digits-last : (count value : ℕ) → getD (digits (suc count) value) count 0 ≡ digitByte value

@@ -3,11 +3,13 @@
 use mathlib.Core.Path.{_≡_, refl, sym, _∙_, ap}
 use mathlib.Core.Bool.{true}
 use mathlib.Core.List.{List, [], _∷_, map}
-use Prim.Native.Nat.{ℕ, zero, suc, _+_, _-_, _≤_, _<_}
+use mathlib.Core.Logic.{⊎-elim}
+use Prim.Native.Nat.{ℕ, zero, suc, _+_, _-_, _%_, _≤_, _<_}
 use native.Mathlib.Omega.{arith}
 use borrow.Author.Tests.{ltb-true, ne-eqb}
 use lib.Dec.{eqb}
 use lib.ListN.{getD}
+use Rattle.laws.proofs.Order.{below-or-from}
 use Rattle.digits.specs.Digits.{digitValue, isDigit, digitByte, upper}
 use Rattle.digits.proofs.Digit.{by-within, value-decimal, value-upper, value-lower, byte-decimal, byte-letter, by-range}
 
@@ -61,6 +63,15 @@ byte-back byte digit =
     let value : digitValue byte ≡ byte - 0x61 + 10 = value-lower byte from upto in
     rw (byte-letter (digitValue byte) (omega arith), upper-moves byte from upto) (omega arith))
     (λ none. absurd (omega arith))
+
+-- What is written for a number is in upper case.
+pub byte-upper : (value : ℕ) → upper (digitByte value) ≡ digitByte value
+byte-upper value =
+    let small : value % 16 < 16 = omega arith in
+    ⊎-elim
+    (λ (below : value % 16 < 10). rw (byte-decimal value below) (upper-stays (0x30 + value % 16) (λ above below. omega arith)))
+    (λ (from : 10 ≤ value % 16). rw (byte-letter value from) (upper-stays (0x41 + (value % 16 - 10)) (λ above below. omega arith)))
+    (below-or-from (value % 16) 10)
 
 -- In upper case a byte stays as it is.
 pub upper-twice : (byte : ℕ) → upper (upper byte) ≡ upper byte

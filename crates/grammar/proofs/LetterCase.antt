@@ -7,23 +7,26 @@ use native.Mathlib.Omega.{arith}
 use lib.ListN.{length, getD, length-map}
 use Rattle.laws.proofs.Fill.{listed-same}
 use Rattle.laws.proofs.Search.{least-same}
+use Rattle.laws.proofs.Cuts.{mapped-append, mapped-joined}
+use Rattle.model.specs.Sheet.{Sheet}
 use Rattle.digits.specs.Digits.{isDigit, upper}
 use Rattle.digits.proofs.Upper.{upper-value, upper-apart, upper-at}
-use Rattle.digits.proofs.Number.{number-upper}
+use Rattle.digits.proofs.Number.{number-upper, digits-upper}
+use Rattle.digits.proofs.Line.{with-digits-upper, line-upper}
 use Rattle.grammar.specs.Grammar.{head, line, sheetLength, lineAllows, sheetAllows, processorsWritten, rowsWritten, wrongAt, firstWrong}
-use Rattle.grammar.specs.Lines.{wordOffset, wordWritten, wordsWritten}
+use Rattle.grammar.specs.Lines.{firstLine, rowLine, lineOf, sheetBytes, wordOffset, wordWritten, wordsWritten}
 use Rattle.grammar.specs.Sheets.{formedRefusal, readRefusal, readAnswer, readSheet, wordsAfter}
 
 -- The same may stand at each place of a line, and at each offset of a sheet.
-line-upper : (kind last place byte : ℕ) → kind < 0x41 → lineAllows kind last place (upper byte) ≡ lineAllows kind last place byte
+place-upper : (kind last place byte : ℕ) → kind < 0x41 → lineAllows kind last place (upper byte) ≡ lineAllows kind last place byte
 unfolding lineAllows isDigit
-line-upper kind last place byte sign =
+place-upper kind last place byte sign =
     rw (upper-apart byte 0x30 (omega arith), upper-apart byte kind sign, upper-apart byte 0x0A (omega arith), upper-value byte)
 
 allowed-upper : (rows offset byte : ℕ) → sheetAllows rows offset (upper byte) ≡ sheetAllows rows offset byte
 unfolding sheetAllows
 allowed-upper rows offset byte =
-    rw (line-upper 0x31 (head - 1) offset byte (omega arith), line-upper 0x32 (line - 1) ((offset - head) % line) byte (omega arith))
+    rw (place-upper 0x31 (head - 1) offset byte (omega arith), place-upper 0x32 (line - 1) ((offset - head) % line) byte (omega arith))
 
 pub allowed-alike : (rows offset byte other : ℕ) → upper byte ≡ upper other → sheetAllows rows offset byte ≡ sheetAllows rows offset other
 allowed-alike rows offset byte other same =
@@ -52,6 +55,16 @@ first-upper : (bytes : List ℕ) → firstWrong (map upper bytes) ≡ firstWrong
 unfolding firstWrong
 first-upper bytes =
     rw (rows-upper bytes) (least-same _ _ 0 (sheetLength (rowsWritten bytes) + 1) (λ offset from below. wrong-upper bytes offset))
+
+-- What is written is in upper case.
+pub written-upper : (s : Sheet) (processors : ℕ) → map upper (sheetBytes s processors) ≡ sheetBytes s processors
+unfolding sheetBytes firstLine lineOf rowLine
+written-upper s processors =
+    mapped-append upper _ _ (line-upper _ (with-digits-upper _ 2 (s .rows) (with-digits-upper _ 2 processors (digits-upper 2 0x01))))
+    (mapped-joined upper (lineOf s) (s .rows)
+    (λ k.
+    line-upper _
+    (with-digits-upper _ 6 (s .period k) (with-digits-upper _ 6 (s .deadline k) (with-digits-upper _ 6 (s .cost k) (digits-upper 2 0x02))))))
 
 -- The refusal, the answer, and what is left in the lent words.
 pub refusal-upper : (bytes : List ℕ) (room : ℕ) → readRefusal (map upper bytes) room ≡ readRefusal bytes room

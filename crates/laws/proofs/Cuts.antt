@@ -2,7 +2,7 @@
 -- at each place of it. By induction on the length.
 use mathlib.Core.Path.{_≡_, refl, sym, _∙_, ap₂}
 use mathlib.Core.Bool.{Bool, true, _&&_}
-use mathlib.Core.List.{List, [], _∷_, _++_, append-assoc, append-nil}
+use mathlib.Core.List.{List, [], _∷_, _++_, map, append-assoc, append-nil, map-append}
 use Prim.Native.Nat.{ℕ, zero, suc, _+_, _*_, _<_}
 use native.Mathlib.Nat.{add-suc, add-zero, suc-add, suc-mul, zero-mul, le-step, lt-suc-self, le-of-suc-le-suc}
 use native.Mathlib.Omega.{arith}
@@ -29,6 +29,15 @@ pub joined-same : (f g : ℕ → List ℕ) (n : ℕ) → ((k : ℕ) → k < n �
 unfolding joined
 joined-same f g zero each = refl
 joined-same f g (suc n) each = ap₂ _++_ (joined-same f g n (λ k h. each k (le-step h))) (each n (lt-suc-self n))
+
+-- Two pieces, and blocks, that are the same with each number exchanged are the same so joined.
+pub mapped-append : (f : ℕ → ℕ) (front back : List ℕ) → map f front ≡ front → map f back ≡ back → map f (front ++ back) ≡ front ++ back
+mapped-append f front back here there = map-append f front back ∙ ap₂ _++_ here there
+
+pub mapped-joined : (f : ℕ → ℕ) (block : ℕ → List ℕ) (n : ℕ) → ((k : ℕ) → map f (block k) ≡ block k) → map f (joined block n) ≡ joined block n
+unfolding joined
+mapped-joined f block zero each = refl
+mapped-joined f block (suc n) each = mapped-append f (joined block n) (block n) (mapped-joined f block n each) (each n)
 
 -- A place of a piece that stands behind a front, with more behind it.
 pub getD-between : (front piece back : List ℕ) (a i : ℕ) → length front ≡ a → i < length piece

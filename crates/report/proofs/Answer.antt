@@ -27,7 +27,7 @@ use Rattle.grammar.proofs.LetterCase.{processors-upper, words-upper, refusal-up
 use Rattle.grammar.proofs.Entries.{read-number, read-found, read-answers, words-read, written-number}
 use Rattle.report.specs.Lines.{resultHead, resultLine, resultLength, refusalLine}
 use Rattle.report.specs.Result.{resultOf, writeResultOf, resultSpaceOf, writeResult, resultAfter, mostWords, answerText, answerRefusal, answerSheet, answerAfter}
-use Rattle.report.proofs.Text.{refusal-length}
+use Rattle.report.proofs.Text.{refusal-length, result-in-upper, refusal-in-upper}
 use Rattle.report.proofs.Entries.{room-decides, result-of-length}
 
 -- Method 1 is not refused.
@@ -117,6 +117,15 @@ whole-answer bytes out enough =
       sym (write-accepted (answerRefusal bytes (length out)) (length (answerText bytes)) room),
       sym (front-put ((answerRefusal bytes (length out)) .number) (answerText bytes) out room),
     )
+
+-- An answer is in upper case, refused or not.
+pub answer-in-upper : (bytes : List ℕ) → map upper (answerText bytes) ≡ answerText bytes
+unfolding answerText resultOf
+answer-in-upper bytes = decided (ℕ-discrete ((readRefusal bytes mostWords) .number) 0)
+  where
+    decided : Dec ((readRefusal bytes mostWords) .number ≡ 0) → map upper (answerText bytes) ≡ answerText bytes
+    decided (yes zero) = rw (not-refused _ _ _ zero) (result-in-upper _ _ _)
+    decided (no one-holds) = rw (is-refused _ _ _ one-holds) (refusal-in-upper _ _)
 
 -- Letter case changes no answer: any bytes are answered as the same bytes in upper case are.
 text-upper : (bytes : List ℕ) → answerText (map upper bytes) ≡ answerText bytes
