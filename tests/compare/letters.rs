@@ -44,18 +44,17 @@ fn one_by_one(text: &mut [u8], random: &mut Random) {
     }
 }
 
-/// A sheet's text with one digit exchanged for any of either case, or with a letter of it in the other case.
+/// A sheet's text with one letter in the other case, or with the byte at one place, unless it ends a line, exchanged for a digit of
+/// either case.
 pub fn one_digit_changed(text: &[u8], random: &mut Random) -> Vec<u8> {
     let mut changed = text.to_vec();
     let is_letter = |&place: &usize| text[place].is_ascii_alphabetic();
     let letters: Vec<usize> = (0..text.len()).filter(is_letter).collect();
     if random.once_in(4) && !letters.is_empty() {
         changed[random.one_of(&letters)] ^= 0x20;
-    } else {
-        let places: Vec<usize> = (0..text.len())
-            .filter(|&place| text[place] != 0x0A)
-            .collect();
-        changed[random.one_of(&places)] = random.one_of(b"0123456789ABCDEFabcdef");
+    } else if let Some(byte) = changed.get_mut(random.below(text.len().max(1))) {
+        let digit = random.one_of(b"0123456789ABCDEFabcdef");
+        *byte = if *byte == 0x0A { 0x0A } else { digit };
     }
     changed
 }

@@ -3,12 +3,13 @@
 use mathlib.Core.Path.{_≡_, refl, sym, _∙_, ap}
 use mathlib.Core.Bool.{true}
 use mathlib.Core.List.{List, [], _∷_, map}
-use mathlib.Core.Logic.{⊎-elim}
+use mathlib.Core.Logic.{_↔_, ⊎-elim}
 use Prim.Native.Nat.{ℕ, zero, suc, _+_, _-_, _%_, _≤_, _<_}
 use native.Mathlib.Omega.{arith}
 use borrow.Author.Tests.{ltb-true, ne-eqb}
 use lib.Dec.{eqb}
-use lib.ListN.{getD}
+use lib.ListN.{length, getD, length-map}
+use lib.Seq.{ext-getD}
 use Rattle.laws.proofs.Order.{below-or-from}
 use Rattle.digits.specs.Digits.{digitValue, isDigit, digitByte, upper}
 use Rattle.digits.proofs.Digit.{by-within, value-decimal, value-upper, value-lower, byte-decimal, byte-letter, by-range}
@@ -83,3 +84,15 @@ pub upper-at : (bytes : List ℕ) (i : ℕ) → getD (map upper bytes) i 0 ≡ u
 upper-at [] i = sym (upper-stays 0 (λ above below. omega arith))
 upper-at (byte ∷ rest) zero = refl
 upper-at (byte ∷ rest) (suc i) = upper-at rest i
+
+-- Bytes are the same in upper case exactly where none of them is `a` to `f`.
+pub same-in-upper : (bytes : List ℕ)
+    → (map upper bytes ≡ bytes) ↔ ((i : ℕ) → i < length bytes → 0x61 ≤ getD bytes i 0 → getD bytes i 0 ≤ 0x66 → ⊥)
+same-in-upper bytes = (
+  λ same i inside from upto.
+      let stays : upper (getD bytes i 0) ≡ getD bytes i 0 = sym (upper-at bytes i) ∙ ap (λ (l : List ℕ). getD l i 0) same in
+      omega (arith, upper-moves (getD bytes i 0) from upto),
+  λ none.
+      ext-getD 0 (map upper bytes) bytes (length-map bytes upper)
+      (λ i h. upper-at bytes i ∙ upper-stays (getD bytes i 0) (none i (rw (length-map bytes upper) at h))),
+)
