@@ -27,47 +27,42 @@ by-within P first last byte one other inside outside = split (within first last 
         outside
         (λ from upto. never-both (and-both (leb first byte) (leb byte last) (le-leb first byte from) (le-leb byte last upto)) lies-not)
 
--- The value of a byte in each range, and of one in none.
-pub value-decimal : (byte : ℕ) → 0x30 ≤ byte → byte ≤ 0x39 → digitValue byte ≡ byte - 0x30
+-- What holds of the shift in each range, and of 16 outside all three, holds of a byte's value.
+pub by-value : (P : ℕ → Type 0) (byte : ℕ) → (0x30 ≤ byte → byte ≤ 0x39 → P (byte - 0x30)) → (0x41 ≤ byte → byte ≤ 0x46 → P (byte - 0x41 + 10))
+    → (0x61 ≤ byte → byte ≤ 0x66 → P (byte - 0x61 + 10))
+    → ((0x30 ≤ byte → byte ≤ 0x39 → ⊥) → (0x41 ≤ byte → byte ≤ 0x46 → ⊥) → (0x61 ≤ byte → byte ≤ 0x66 → ⊥) → P 16) → P (digitValue byte)
 unfolding digitValue
+by-value P byte decimal upper lower none =
+    by-within P _ _ byte _ _ decimal
+    (λ no-decimal. by-within P _ _ byte _ _ upper (λ no-upper. by-within P _ _ byte _ _ lower (none no-decimal no-upper)))
+
+-- So it is in each range, and in none.
+pub value-decimal : (byte : ℕ) → 0x30 ≤ byte → byte ≤ 0x39 → digitValue byte ≡ byte - 0x30
 value-decimal byte from upto =
-    by-within (λ value. value ≡ byte - 0x30) _ _ byte _ _ (λ above below. refl) (λ out. absurd (out (omega arith) (omega arith)))
+    by-value (λ value. value ≡ byte - 0x30) byte (λ above below. refl) (λ above below. omega arith) (λ above below. omega arith)
+    (λ no-decimal no-upper no-lower. absurd (no-decimal from upto))
 
 pub value-upper : (byte : ℕ) → 0x41 ≤ byte → byte ≤ 0x46 → digitValue byte ≡ byte - 0x41 + 10
-unfolding digitValue
 value-upper byte from upto =
-    let counts : ℕ → Type 0 = λ value. value ≡ byte - 0x41 + 10 in
-    by-within counts _ _ byte _ _ (λ above below. absurd (omega arith))
-    (λ no-decimal. by-within counts _ _ byte _ _ (λ above below. refl) (λ out. absurd (out (omega arith) (omega arith))))
+    by-value (λ value. value ≡ byte - 0x41 + 10) byte (λ above below. omega arith) (λ above below. refl) (λ above below. omega arith)
+    (λ no-decimal no-upper no-lower. absurd (no-upper from upto))
 
 pub value-lower : (byte : ℕ) → 0x61 ≤ byte → byte ≤ 0x66 → digitValue byte ≡ byte - 0x61 + 10
-unfolding digitValue
 value-lower byte from upto =
-    let counts : ℕ → Type 0 = λ value. value ≡ byte - 0x61 + 10 in
-    by-within counts _ _ byte _ _ (λ above below. absurd (omega arith))
-    (λ no-decimal.
-    by-within counts _ _ byte _ _ (λ above below. absurd (omega arith))
-    (λ no-upper. by-within counts _ _ byte _ _ (λ above below. refl) (λ out. absurd (out (omega arith) (omega arith)))))
+    by-value (λ value. value ≡ byte - 0x61 + 10) byte (λ above below. omega arith) (λ above below. omega arith) (λ above below. refl)
+    (λ no-decimal no-upper no-lower. absurd (no-lower from upto))
 
 pub value-none : (byte : ℕ) → (0x30 ≤ byte → byte ≤ 0x39 → ⊥) → (0x41 ≤ byte → byte ≤ 0x46 → ⊥) → (0x61 ≤ byte → byte ≤ 0x66 → ⊥)
     → digitValue byte ≡ 16
-unfolding digitValue
 value-none byte no-decimal no-upper no-lower =
-    let counts : ℕ → Type 0 = λ value. value ≡ 16 in
-    by-within counts _ _ byte _ _ (λ from upto. absurd (no-decimal from upto))
-    (λ out.
-    by-within counts _ _ byte _ _ (λ from upto. absurd (no-upper from upto))
-    (λ out. by-within counts _ _ byte _ _ (λ from upto. absurd (no-lower from upto)) (λ out. refl)))
+    by-value (λ value. value ≡ 16) byte (λ from upto. absurd (no-decimal from upto)) (λ from upto. absurd (no-upper from upto))
+    (λ from upto. absurd (no-lower from upto)) (λ out-decimal out-upper out-lower. refl)
 
--- Every byte lies in one of the three ranges, or counts 16.
-pub by-range : {P : Type 0} (byte : ℕ) → (0x30 ≤ byte → byte ≤ 0x39 → P) → (0x41 ≤ byte → byte ≤ 0x46 → P)
-    → (0x61 ≤ byte → byte ≤ 0x66 → P) → (digitValue byte ≡ 16 → P) → P
-by-range {P} byte decimal upper lower none =
-    let always : ℕ → Type 0 = λ _. P in
-    by-within always 0x30 0x39 byte 0 0 decimal
-    (λ no-decimal.
-    by-within always 0x41 0x46 byte 0 0 upper
-    (λ no-upper. by-within always 0x61 0x66 byte 0 0 lower (λ no-lower. none (value-none byte no-decimal no-upper no-lower))))
+-- No byte counts more than 16.
+pub value-limit : (byte : ℕ) → digitValue byte ≤ 16
+value-limit byte =
+    by-value (λ value. value ≤ 16) byte (λ from upto. omega arith) (λ from upto. omega arith) (λ from upto. omega arith)
+    (λ no-decimal no-upper no-lower. omega arith)
 
 -- The byte of a number whose last digit is below 10, and of one whose last digit is a letter.
 pub byte-decimal : (value : ℕ) → value % 16 < 10 → digitByte value ≡ 0x30 + value % 16
@@ -102,10 +97,3 @@ value-back value small = value-of-byte value ∙ mod-eq-of-lt small
 pub byte-is-digit : (value : ℕ) → isDigit (digitByte value) ≡ true
 unfolding isDigit
 byte-is-digit value = lt-ltb (digitValue (digitByte value)) 16 (rw value-of-byte (omega arith))
-
--- No byte counts more than 16.
-pub value-limit : (byte : ℕ) → digitValue byte ≤ 16
-value-limit byte =
-    by-range byte (λ from upto. rw (value-decimal byte from upto) (omega arith)) (λ from upto. rw (value-upper byte from upto) (omega arith))
-    (λ from upto. rw (value-lower byte from upto) (omega arith))
-    (λ none. rw none (omega arith))

@@ -3,16 +3,16 @@
 use mathlib.Core.Path.{_≡_, refl, sym, _∙_, ap}
 use mathlib.Core.Bool.{true}
 use mathlib.Core.List.{List, [], _∷_, map}
-use mathlib.Core.Logic.{_↔_, ⊎-elim}
-use Prim.Native.Nat.{ℕ, zero, suc, _+_, _-_, _%_, _≤_, _<_}
+use mathlib.Core.Logic.{_↔_}
+use Prim.Native.Nat.{ℕ, zero, suc, _+_, _-_, _≤_, _<_}
 use native.Mathlib.Omega.{arith}
 use borrow.Author.Tests.{ltb-true, ne-eqb}
 use lib.Dec.{eqb}
 use lib.ListN.{length, getD, length-map}
 use lib.Seq.{ext-getD}
-use Rattle.laws.proofs.Order.{below-or-from}
+use Rattle.laws.proofs.Choice.{same-after}
 use Rattle.digits.specs.Digits.{digitValue, isDigit, digitByte, upper}
-use Rattle.digits.proofs.Digit.{by-within, value-decimal, value-upper, value-lower, byte-decimal, byte-letter, by-range}
+use Rattle.digits.proofs.Digit.{by-within, by-value, value-upper, value-lower, byte-decimal, byte-letter, byte-last, value-of-byte, byte-is-digit}
 
 -- Upper case moves `a` to `f`, and no other byte.
 pub upper-moves : (byte : ℕ) → 0x61 ≤ byte → byte ≤ 0x66 → upper byte ≡ byte - 0x20
@@ -39,7 +39,7 @@ upper-value byte =
 
 -- So bytes that are the same in upper case count the same.
 pub same-value : (byte other : ℕ) → upper byte ≡ upper other → digitValue byte ≡ digitValue other
-same-value byte other same = sym (upper-value byte) ∙ ap digitValue same ∙ upper-value other
+same-value = same-after upper digitValue upper-value
 
 -- No byte becomes one below `A`, or stops being one, by its case.
 pub upper-apart : (byte sign : ℕ) → sign < 0x41 → eqb (upper byte) sign ≡ eqb byte sign
@@ -52,27 +52,16 @@ upper-apart byte sign below =
 pub byte-back : (byte : ℕ) → isDigit byte ≡ true → digitByte (digitValue byte) ≡ upper byte
 unfolding isDigit
 byte-back byte digit =
-    let small : digitValue byte < 16 = ltb-true (digitValue byte) 16 digit in
-    by-range byte
-    (λ from upto.
-    let value : digitValue byte ≡ byte - 0x30 = value-decimal byte from upto in
-    rw (byte-decimal (digitValue byte) (omega arith), upper-stays byte (λ above below. omega arith)) (omega arith))
-    (λ from upto.
-    let value : digitValue byte ≡ byte - 0x41 + 10 = value-upper byte from upto in
-    rw (byte-letter (digitValue byte) (omega arith), upper-stays byte (λ above below. omega arith)) (omega arith))
-    (λ from upto.
-    let value : digitValue byte ≡ byte - 0x61 + 10 = value-lower byte from upto in
-    rw (byte-letter (digitValue byte) (omega arith), upper-moves byte from upto) (omega arith))
-    (λ none. absurd (omega arith))
+    by-value (λ value. value < 16 → digitByte value ≡ upper byte) byte
+    (λ from upto small. rw (byte-decimal (byte - 0x30) (omega arith), upper-stays byte (λ above below. omega arith)) (omega arith))
+    (λ from upto small. rw (byte-letter (byte - 0x41 + 10) (omega arith), upper-stays byte (λ above below. omega arith)) (omega arith))
+    (λ from upto small. rw (byte-letter (byte - 0x61 + 10) (omega arith), upper-moves byte from upto) (omega arith))
+    (λ no-decimal no-upper no-lower small. absurd (omega arith))
+    (ltb-true (digitValue byte) 16 digit)
 
--- What is written for a number is in upper case.
+-- So what is written for a number is in upper case.
 pub byte-upper : (value : ℕ) → upper (digitByte value) ≡ digitByte value
-byte-upper value =
-    let small : value % 16 < 16 = omega arith in
-    ⊎-elim
-    (λ (below : value % 16 < 10). rw (byte-decimal value below) (upper-stays (0x30 + value % 16) (λ above below. omega arith)))
-    (λ (from : 10 ≤ value % 16). rw (byte-letter value from) (upper-stays (0x41 + (value % 16 - 10)) (λ above below. omega arith)))
-    (below-or-from (value % 16) 10)
+byte-upper value = sym (byte-back (digitByte value) (byte-is-digit value)) ∙ ap digitByte (value-of-byte value) ∙ byte-last value
 
 -- In upper case a byte stays as it is.
 pub upper-twice : (byte : ℕ) → upper (upper byte) ≡ upper byte

@@ -1,10 +1,11 @@
 -- Letter case changes nothing that is read: at each offset the same may stand in either case, and each number is the same. So any bytes,
--- right or wrong, are read as the same bytes in upper case are.
-use mathlib.Core.Path.{_≡_, sym, _∙_, ap}
+-- right or wrong, are read as the same bytes in upper case are. What is written is in upper case, line by line.
+use mathlib.Core.Path.{_≡_}
 use mathlib.Core.List.{List, map}
 use Prim.Native.Nat.{ℕ, _+_, _*_, _-_, _%_, _<_}
 use native.Mathlib.Omega.{arith}
 use lib.ListN.{length, getD, length-map}
+use Rattle.laws.proofs.Choice.{same-after}
 use Rattle.laws.proofs.Fill.{listed-same}
 use Rattle.laws.proofs.Search.{least-same}
 use Rattle.laws.proofs.Cuts.{mapped-append, mapped-joined}
@@ -29,8 +30,7 @@ allowed-upper rows offset byte =
     rw (place-upper 0x31 (head - 1) offset byte (omega arith), place-upper 0x32 (line - 1) ((offset - head) % line) byte (omega arith))
 
 pub allowed-alike : (rows offset byte other : ℕ) → upper byte ≡ upper other → sheetAllows rows offset byte ≡ sheetAllows rows offset other
-allowed-alike rows offset byte other same =
-    sym (allowed-upper rows offset byte) ∙ ap (sheetAllows rows offset) same ∙ allowed-upper rows offset other
+allowed-alike rows offset = same-after upper (sheetAllows rows offset) (allowed-upper rows offset)
 
 -- The numbers of line one and of the rows.
 pub processors-upper : (bytes : List ℕ) → processorsWritten (map upper bytes) ≡ processorsWritten bytes
@@ -56,16 +56,6 @@ unfolding firstWrong
 first-upper bytes =
     rw (rows-upper bytes) (least-same _ _ 0 (sheetLength (rowsWritten bytes) + 1) (λ offset from below. wrong-upper bytes offset))
 
--- What is written is in upper case.
-pub written-upper : (s : Sheet) (processors : ℕ) → map upper (sheetBytes s processors) ≡ sheetBytes s processors
-unfolding sheetBytes firstLine lineOf rowLine
-written-upper s processors =
-    mapped-append upper _ _ (line-upper _ (with-digits-upper _ 2 (s .rows) (with-digits-upper _ 2 processors (digits-upper 2 0x01))))
-    (mapped-joined upper (lineOf s) (s .rows)
-    (λ k.
-    line-upper _
-    (with-digits-upper _ 6 (s .period k) (with-digits-upper _ 6 (s .deadline k) (with-digits-upper _ 6 (s .cost k) (digits-upper 2 0x02))))))
-
 -- The refusal, the answer, and what is left in the lent words.
 pub refusal-upper : (bytes : List ℕ) (room : ℕ) → readRefusal (map upper bytes) room ≡ readRefusal bytes room
 unfolding readRefusal formedRefusal
@@ -78,3 +68,13 @@ read-upper bytes room = rw (refusal-upper bytes room, processors-upper bytes, ro
 pub words-after-upper : (bytes words : List ℕ) → wordsAfter (map upper bytes) words ≡ wordsAfter bytes words
 unfolding wordsAfter
 words-after-upper bytes words = rw (refusal-upper bytes (length words), words-upper bytes)
+
+-- What is written is in upper case.
+pub written-upper : (s : Sheet) (processors : ℕ) → map upper (sheetBytes s processors) ≡ sheetBytes s processors
+unfolding sheetBytes firstLine lineOf rowLine
+written-upper s processors =
+    mapped-append upper _ _ (line-upper _ (with-digits-upper _ 2 (s .rows) (with-digits-upper _ 2 processors (digits-upper 2 0x01))))
+    (mapped-joined upper (lineOf s) (s .rows)
+    (λ k.
+    line-upper _
+    (with-digits-upper _ 6 (s .period k) (with-digits-upper _ 6 (s .deadline k) (with-digits-upper _ 6 (s .cost k) (digits-upper 2 0x02))))))

@@ -1,10 +1,11 @@
 -- Two sheets that are not refused read as equal exactly where they differ in letter case at most: a sheet in upper case is read as the sheet
 -- is, and what was read writes the sheet in upper case.
-use mathlib.Core.Path.{_≡_, sym, _∙_, ap, ap₂}
+use mathlib.Core.Path.{_≡_, sym, _∙_, ap₂}
 use mathlib.Core.List.{List, map}
 use mathlib.Core.Logic.{_↔_}
 use Prim.Native.Nat.{ℕ}
 use lib.ListN.{length}
+use Rattle.laws.proofs.Choice.{same-after}
 use Rattle.digits.specs.Digits.{upper}
 use Rattle.rows.specs.Words.{sheetOf}
 use Rattle.grammar.specs.Grammar.{processorsWritten, rowsWritten}
@@ -14,11 +15,6 @@ use Rattle.grammar.specs.Sheets.{readSheet, ReadAlike}
 use Rattle.grammar.proofs.LetterCase.{processors-upper, rows-upper, words-upper}
 use Rattle.grammar.proofs.ReadBack.{sheet-back}
 use Rattle.grammar.proofs.Entries.{read-found, processors-read, rows-read, words-read}
-
--- A number or a list that is the same of bytes in upper case is the same of two that differ in letter case at most.
-either-case : {A : Type 0} (said : List ℕ → A) → ((bytes : List ℕ) → said (map upper bytes) ≡ said bytes) → (bytes other : List ℕ)
-    → map upper bytes ≡ map upper other → said bytes ≡ said other
-either-case said same bytes other alike = sym (same bytes) ∙ ap said alike ∙ same other
 
 -- Equal readings and equal sheets but for letter case, each from the other.
 pub read-alike : (bytes other words space : List ℕ) → (readSheet bytes (length words)) .refusal ≡ 0
@@ -38,9 +34,15 @@ read-alike bytes other words space none-holds none-holds-there =
           record {
             processors =
                 processors-read bytes words here
-                ∙ either-case processorsWritten processors-upper bytes other same
+                ∙ same-after (map upper) processorsWritten processors-upper bytes other same
                 ∙ sym (processors-read other space there);
-            rows = rows-read bytes words here ∙ either-case rowsWritten rows-upper bytes other same ∙ sym (rows-read other space there);
-            each = words-read bytes words here ∙ either-case wordsWritten words-upper bytes other same ∙ sym (words-read other space there);
+            rows =
+                rows-read bytes words here
+                ∙ same-after (map upper) rowsWritten rows-upper bytes other same
+                ∙ sym (rows-read other space there);
+            each =
+                words-read bytes words here
+                ∙ same-after (map upper) wordsWritten words-upper bytes other same
+                ∙ sym (words-read other space there);
           },
     )

@@ -12,7 +12,7 @@ use lib.ListN.{length, getD, length-map}
 use Rattle.laws.specs.Fill.{listed, joined}
 use Rattle.laws.proofs.Fill.{listed-at, listed-same, listed-back}
 use Rattle.digits.specs.Digits.{isDigit, digitByte, upper, number, digits}
-use Rattle.digits.proofs.Upper.{upper-stays, upper-at}
+use Rattle.digits.proofs.Upper.{upper-apart, upper-at}
 use Rattle.digits.proofs.Number.{digits-of-number}
 use Rattle.rows.specs.Words.{sheetOf}
 use Rattle.rows.proofs.Words.{cost-word, deadline-word, period-word}
@@ -38,9 +38,9 @@ piece bytes at place count each =
 abbrev LineAt : List ℕ → ℕ → ℕ → ℕ → Type 0
 LineAt bytes at kind last = (j : ℕ) → j ≤ last → lineAllows kind last j (getD bytes (at + j) 0) ≡ true
 
--- A byte that is known to be no letter is the same in upper case.
+-- A byte that is found to be one below `A` is it in upper case too.
 known : (byte sign : ℕ) → sign < 0x41 → eqb byte sign ≡ true → upper byte ≡ sign
-known byte sign plain same = ap upper (eqb-true byte sign same) ∙ upper-stays sign (λ above below. omega arith)
+known byte sign plain same = eqb-true (upper byte) sign (upper-apart byte sign plain ∙ same)
 
 -- What such a line says of its bytes: `0`, its kind, digits, 0A.
 module _ (bytes : List ℕ) (at kind last : ℕ) (stands : LineAt bytes at kind last) (long : 2 ≤ last) (plain : kind < 0x41) where

@@ -34,6 +34,11 @@ is-refused number refused worked one-holds = pick-no _ worked refused (ne-eqb nu
 pub one-answer : {A : Type 0} {definition first second : A} → first ≡ definition → second ≡ definition → first ≡ second
 one-answer h k = h ∙ sym k
 
+-- What does not see a change says the same of two that are the same after it.
+pub same-after : {A B : Type 0} (change : A → A) (said : A → B) → ((x : A) → said (change x) ≡ said x) → (x y : A) → change x ≡ change y
+    → said x ≡ said y
+same-after change said unseen x y same = sym (unseen x) ∙ ap said same ∙ unseen y
+
 -- Where both hold, each does; and the other way round.
 pub and-left : (a b : Bool) → (a && b) ≡ true → a ≡ true
 and-left true b h = refl

@@ -1,4 +1,5 @@
--- The whole answer: a refused sheet gets its line, and a sheet that was read is refused later only for want of room.
+-- The whole answer: a refused sheet gets its line, and a sheet that was read is refused later only for want of room. Letter case changes
+-- nothing in it.
 use mathlib.Core.Path.{_≡_, refl, sym, _∙_, ap, ap₂}
 use mathlib.Core.List.{List, _++_, map}
 use mathlib.Core.Logic.{_↔_}

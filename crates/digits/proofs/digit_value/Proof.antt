@@ -27,15 +27,24 @@ returns-4 c =
 
 returns-5 : tie.Need-returns-5
 returns-5 c =
-    omega (arith, value-none (c .before .before .before .args .byte) (λ from upto. omega arith) (λ from upto. omega arith) (λ from upto. omega arith))
+    omega (
+      arith,
+      value-none (c .before .before .before .args .byte) (λ from upto. omega arith) (λ from upto. omega arith) (λ from upto. omega arith),
+    )
 
 returns-6 : tie.Need-returns-6
 returns-6 c =
-    omega (arith, value-none (c .before .before .before .before .before .args .byte) (λ from upto. omega arith) (λ from upto. omega arith) (λ from upto. omega arith))
+    omega (
+      arith,
+      value-none (c .before .before .before .before .before .args .byte) (λ from upto. omega arith) (λ from upto. omega arith) (λ from upto. omega arith),
+    )
 
 returns-7 : tie.Need-returns-7
 returns-7 c =
-    omega (arith, value-none (c .before .before .before .before .before .before .args .byte) (λ from upto. omega arith) (λ from upto. omega arith) (λ from upto. omega arith))
+    omega (
+      arith,
+      value-none (c .before .before .before .before .before .before .args .byte) (λ from upto. omega arith) (λ from upto. omega arith) (λ from upto. omega arith),
+    )
 
 pub digit-value-spec : {M : Type 1} → statement M
 digit-value-spec =
