@@ -3,12 +3,15 @@
 
 Words are in snake case, so `sheetOf` is `sheet_of`; types and modules keep their capitals. In a lemma's name a dash joins two words that are
 names themselves, of a definition or of the library, and every other dash is an underscore. Functions of src/, exported C names, strings and
-inputs keep theirs. Two names that would fall together are told, and then nothing is written.
+inputs keep theirs. Two names that would fall together are told, and then nothing is written. What was respelled stands in tools/respelled.txt, and where that is
+there it decides, so that an older tree is respelled alike.
 """
 import glob
+import os
 import re
 import sys
 
+LISTED = os.path.join(os.path.dirname(os.path.realpath(__file__)), "respelled.txt")
 IDENT = re.compile(r"[A-Za-z_ℕℤ≤≡◌₂][A-Za-z0-9_'ℕℤ≤≡◌₂]*(?:-[A-Za-z0-9_'ℕℤ≤≡◌₂*+]+)*")
 CAMEL = re.compile(r"^[a-z][a-z0-9_']*(?:[A-Z][A-Za-z0-9_']*)+$")
 KIT_USE = re.compile(r"^(?:ghost )?use (?!Rattle\.(?:%s)\.)(\S+?)\.\{(.*?)\};?$" % "|".join(p.split("/")[1] for p in glob.glob("crates/*")), re.M)
@@ -20,7 +23,7 @@ def names_of(listed):
 
 
 def snake(name):
-    return re.sub(r"(?<=[a-z0-9])([A-Z])", lambda m: "_" + m.group(1).lower(), name)
+    return re.sub(r"(?<=[a-z0-9A-Z])([A-Z])", lambda m: "_" + m.group(1).lower(), name)
 
 
 def read(path):
@@ -84,6 +87,7 @@ def clashes(name, new):
     return [path for path in bare if name in bare[path] and any(o != name and renamed.get(o, o) == new for o in bare[path])]
 
 
+renamed["at-once"] = "by_at_once"
 together = []
 for name in sorted(renamed):
     if clashes(name, renamed[name]):
@@ -92,9 +96,16 @@ for name in sorted(renamed):
 for name in sorted(renamed):
     for path in clashes(name, renamed[name]):
         together.append(f"{name} -> {renamed[name]} in {path}")
-if together:
+if together and not os.path.exists(LISTED):
     print("fall together:\n" + "\n".join(together))
     sys.exit(1)
+
+
+if os.path.exists(LISTED):
+    renamed = dict(line.split() for line in read(LISTED).splitlines())
+else:
+    with open(LISTED, "w") as f:
+        f.write("".join(f"{name} {new}\n" for name, new in sorted(renamed.items())))
 
 
 def turn(body, allowed):

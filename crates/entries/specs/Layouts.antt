@@ -12,7 +12,7 @@ pub record SameAnswers (one other : Lent) : Type 0 where
   pub one_row : (m method : ℕ) (bounds : List ℕ) (row : ℕ) → one_row_in one m method bounds row ≡ one_row_in other m method bounds row
   pub by_rounds : (m method room : ℕ) → refined_in rounds one m method room ≡ refined_in rounds other m method room
   pub rounds_words : (m method : ℕ) (out : List ℕ) → refined_words_in rounds one m method out ≡ refined_words_in rounds other m method out
-  pub at_once_lem : (m method room : ℕ) → refined_in at_once one m method room ≡ refined_in at_once other m method room
+  pub by_at_once : (m method room : ℕ) → refined_in at_once one m method room ≡ refined_in at_once other m method room
   pub at_once_words : (m method : ℕ) (out : List ℕ) → refined_words_in at_once one m method out ≡ refined_words_in at_once other m method out
   pub one_processor : (horizon : ℕ) → one_processor_in one horizon ≡ one_processor_in other horizon
   pub density : (m : ℕ) → density_in one m ≡ density_in other m

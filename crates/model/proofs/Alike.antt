@@ -86,7 +86,7 @@ module _ (s t : Sheet) (alike : Alike s t) where
       record {
         answers = same_answers method m;
         by_rounds = same-rounds method m;
-        at_once_lem = sym (engines_agree method s m).same_bounds ∙ same-rounds method m ∙ (engines_agree method t m).same_bounds;
+        by_at_once = sym (engines_agree method s m).same_bounds ∙ same-rounds method m ∙ (engines_agree method t m).same_bounds;
         each_mark = each_mark;
         same-marks = λ R.
             bits-same (marked ask R) (marked ask' R) s.rows (λ k here. each_mark k here R) ∙ ap (bits (marked ask' R)) alike.rows;

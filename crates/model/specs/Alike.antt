@@ -33,7 +33,7 @@ pub record Alike (s t : Sheet) : Type 0 where
 pub record SameResults (method : Method) (m : ℕ) (s t : Sheet) : Type 0 where
   pub answers : (k : ℕ) → k < s.rows → (R : List ℕ) → answer method s m k R ≡ answer method t m k R
   pub by_rounds : rounds s (answer method s m) ≡ rounds t (answer method t m)
-  pub at_once_lem : at_once s (answer method s m) ≡ at_once t (answer method t m)
+  pub by_at_once : at_once s (answer method s m) ≡ at_once t (answer method t m)
   pub each_mark : (k : ℕ) → k < s.rows → (R : List ℕ) → marked (answer method s m) R k ≡ marked (answer method t m) R k
   pub same-marks : (R : List ℕ) → marks s (answer method s m) R ≡ marks t (answer method t m) R
   pub same-accepted : (R : List ℕ) → accepted s (answer method s m) R ≡ accepted t (answer method t m) R

@@ -24,7 +24,7 @@ use Rattle.pieces.specs.declared.Reached.{Reached}
 use Rattle.pieces.specs.declared.Pieces.{Pieces}
 use Rattle.pieces.specs.Feeding.{fresh, announced, fed}
 use Rattle.pieces.specs.Ending.{judged_refusal, found_answer, wrong_reached, words_reached, end_refusal, end_found, end_leaves, end_answer, words_after_end}
-use Rattle.pieces.specs.Pieced.{RightBelow, so_far, reached_at, state_at, fed_all, in_aRow}
+use Rattle.pieces.specs.Pieced.{RightBelow, so_far, reached_at, state_at, fed_all, in_a_row}
 use Rattle.pieces.specs.Inner.{in_hand}
 use Rattle.pieces.proofs.Cut.{fed_all_lem, fed_keeps}
 use Rattle.pieces.proofs.SoFar.{whole_number, rows_announced, held_right, held_wrong}
@@ -153,27 +153,27 @@ wrong_at_once bytes place breaks =
     rw (held_wrong bytes place wrong breaks.before) (wrong_refused bytes (state_at bytes place 1) place breaks (stops_there bytes place)))
     breaks.here
 
-at_once_lem : (bytes : List ℕ) → AtOnce bytes (fed fresh bytes)
-at_once_lem bytes = split (first_wrong bytes) (form_means bytes)
+by_at_once : (bytes : List ℕ) → AtOnce bytes (fed fresh bytes)
+by_at_once bytes = split (first_wrong bytes) (form_means bytes)
   where
     split : (r : Option ℕ) → FormMeans bytes r → AtOnce bytes (fed fresh bytes)
     split none formed = right_at_once bytes formed
     split (some place) breaks = wrong_at_once bytes place breaks
 
 -- However a sheet is cut, its end answers and leaves what reading all its bytes at once does.
-pub end_reads : (pieces : List (List ℕ)) (room : ℕ) → end_answer (fed_all fresh pieces) room ≡ read_sheet (in_aRow pieces) room
+pub end_reads : (pieces : List (List ℕ)) (room : ℕ) → end_answer (fed_all fresh pieces) room ≡ read_sheet (in_a_row pieces) room
 unfolding end_answer fresh
 end_reads pieces room =
     rw (fed_all_lem fresh pieces)
-    (pick_yes _ _ _ (eq-eqb _ 0 (fed_keeps fresh (in_aRow pieces)).0) ∙ (at_once_lem (in_aRow pieces)).found room)
+    (pick_yes _ _ _ (eq-eqb _ 0 (fed_keeps fresh (in_a_row pieces)).0) ∙ (by_at_once (in_a_row pieces)).found room)
 
-pub end_writes : (pieces : List (List ℕ)) (lent : List ℕ) → words_after_end (fed_all fresh pieces) lent ≡ words_after (in_aRow pieces) lent
+pub end_writes : (pieces : List (List ℕ)) (lent : List ℕ) → words_after_end (fed_all fresh pieces) lent ≡ words_after (in_a_row pieces) lent
 unfolding words_after_end fresh
 end_writes pieces lent =
     rw (fed_all_lem fresh pieces)
-    (pick_yes _ _ _ (eq-eqb _ 0 (fed_keeps fresh (in_aRow pieces)).0) ∙ (at_once_lem (in_aRow pieces)).leaves lent)
+    (pick_yes _ _ _ (eq-eqb _ 0 (fed_keeps fresh (in_a_row pieces)).0) ∙ (by_at_once (in_a_row pieces)).leaves lent)
 
 -- A sheet that is fed whole, and then ends, is read.
 pub whole_reads : (bytes words : List ℕ) (reached : Reached) → fed fresh bytes ≡ in_hand reached words (read_refused 0 0)
     → ((room : ℕ) → end_found reached words room ≡ read_sheet bytes room) × ((lent : List ℕ) → end_leaves reached words lent ≡ words_after bytes lent)
-whole_reads bytes words reached held = let facts = rw held at (at_once_lem bytes) in (facts.found, facts.leaves)
+whole_reads bytes words reached held = let facts = rw held at (by_at_once bytes) in (facts.found, facts.leaves)

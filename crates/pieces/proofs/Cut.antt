@@ -17,7 +17,7 @@ use Rattle.pieces.specs.declared.Pieces.{Pieces}
 use Rattle.pieces.specs.declared.Given.TheVariants.{NotYet, Answer}
 use Rattle.pieces.specs.Feeding.{announced, reached_with, reached_wrong, words_with, moved_on, counts, fed_byte, fed}
 use Rattle.pieces.specs.Ending.{end_found, end_answer, ended, words_after_end, given, ending}
-use Rattle.pieces.specs.Pieced.{fed_all, in_aRow, EndsOnce}
+use Rattle.pieces.specs.Pieced.{fed_all, in_a_row, EndsOnce}
 
 -- A piece of no bytes changes nothing, and one piece and then another is both together.
 pub fed-none : (s : Pieces) → fed s [] ≡ s
@@ -37,16 +37,16 @@ fed_next s t bytes i inside taken =
     ap (fed s) (drop-cons bytes i 0 inside) ∙ rw add-one (ap (λ (u : Pieces). fed u (drop (suc i) bytes)) taken)
 
 -- So pieces of any number and length are all their bytes in a row.
-pub fed_all_lem : (s : Pieces) (pieces : List (List ℕ)) → fed_all s pieces ≡ fed s (in_aRow pieces)
-unfolding fed_all in_aRow
+pub fed_all_lem : (s : Pieces) (pieces : List (List ℕ)) → fed_all s pieces ≡ fed s (in_a_row pieces)
+unfolding fed_all in_a_row
 fed_all_lem s [] = sym (fed-none s)
-fed_all_lem s (piece ∷ pieces) = fed_all_lem (fed s piece) pieces ∙ fed_append s piece (in_aRow pieces)
+fed_all_lem s (piece ∷ pieces) = fed_all_lem (fed s piece) pieces ∙ fed_append s piece (in_a_row pieces)
 
 -- So two ways to cut the same bytes leave the same state, and come to the same end.
-pub same_state : (s : Pieces) (pieces others : List (List ℕ)) → in_aRow pieces ≡ in_aRow others → fed_all s pieces ≡ fed_all s others
+pub same_state : (s : Pieces) (pieces others : List (List ℕ)) → in_a_row pieces ≡ in_a_row others → fed_all s pieces ≡ fed_all s others
 same_state s pieces others same = fed_all_lem s pieces ∙ ap (fed s) same ∙ sym (fed_all_lem s others)
 
-pub same_end : (s : Pieces) (pieces others : List (List ℕ)) (room : ℕ) → in_aRow pieces ≡ in_aRow others
+pub same_end : (s : Pieces) (pieces others : List (List ℕ)) (room : ℕ) → in_a_row pieces ≡ in_a_row others
     → ending (fed_all s pieces) room ≡ ending (fed_all s others) room
 same_end s pieces others room same = ap (λ (t : Pieces). ending t room) (same_state s pieces others same)
 
@@ -122,7 +122,7 @@ end_kept s room = split (eqb s.ended 0) refl
 pub ends_once : (s : Pieces) (room : ℕ) (pieces : List (List ℕ)) (lent : List ℕ) → EndsOnce s room pieces lent
 ends_once s room pieces lent =
     let kept = end_kept s room in
-    let same : fed_all (ended s room) pieces ≡ ended s room = fed_all_lem (ended s room) pieces ∙ fed_after (ended s room) (in_aRow pieces) kept.0 in
+    let same : fed_all (ended s room) pieces ≡ ended s room = fed_all_lem (ended s room) pieces ∙ fed_after (ended s room) (in_a_row pieces) kept.0 in
     let again = end_after (ended s room) (length lent) kept.0 in
     record {
       state = rw same again.0;

@@ -16,9 +16,9 @@ fed_all s [] = s
 fed_all s (piece ∷ pieces) = fed_all (fed s piece) pieces
 
 -- The bytes of all pieces in a row.
-unfoldable pub in_aRow : List (List ℕ) → List ℕ
-in_aRow [] = []
-in_aRow (piece ∷ pieces) = piece ++ in_aRow pieces
+unfoldable pub in_a_row : List (List ℕ) → List ℕ
+in_a_row [] = []
+in_a_row (piece ∷ pieces) = piece ++ in_a_row pieces
 
 -- Whatever comes behind an end, pieces of any number and a second end with whatever room, leaves the state, the answer and the lent words.
 pub record EndsOnce (s : Pieces) (room : ℕ) (pieces : List (List ℕ)) (lent : List ℕ) : Type 0 where
