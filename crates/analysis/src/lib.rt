@@ -1,4 +1,6 @@
 // The one-row question and the two engines, on rows in lent columns, and the same on rows in triples.
+#![tactic(auto)]
+
 mod at_once;
 mod checks;
 mod rounds;

@@ -1,4 +1,6 @@
 // The C face: one exported function for each public entry, on numbers and lent slices. Nothing is worked out here.
+#![tactic(auto)]
+
 mod cases;
 
 ghost use Rattle.std.specs.Prelude.{◌≡◌, length};
@@ -30,7 +32,7 @@ use sheet::{read_sheet, write_sheet};
 
 // The answer to the one-row question in numbers: the bound is 0 where there is none.
 #[repr(C)]
-#[derive(Drop)]
+#[derive(Clone, Copy)]
 pub struct RowNumbers {
     pub refusal: u32,
     pub place: u32,
@@ -39,7 +41,7 @@ pub struct RowNumbers {
 
 // The answer of the exact test in numbers: outcome 0 is undecided, 1 a miss, 2 fits; the length is 0, the least that misses, or the busy length.
 #[repr(C)]
-#[derive(Drop)]
+#[derive(Clone, Copy)]
 pub struct OutcomeNumbers {
     pub refusal: u32,
     pub place: u32,
@@ -49,7 +51,7 @@ pub struct OutcomeNumbers {
 
 // The answer of the density test in numbers: 0 is unsure, 1 yes, 2 no.
 #[repr(C)]
-#[derive(Drop)]
+#[derive(Clone, Copy)]
 pub struct DensityNumbers {
     pub refusal: u32,
     pub place: u32,

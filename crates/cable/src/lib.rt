@@ -1,4 +1,6 @@
 // A task sheet that comes in pieces: it is started, fed, and told that it ends.
+#![tactic(auto)]
+
 ghost use Rattle.std.specs.Prelude.{◌≡◌, length};
 ghost use Rattle.pieces.specs.Feeding.{fresh};
 ghost use Rattle.pieces.specs.Ending.{feeding, ending, words_after_end};

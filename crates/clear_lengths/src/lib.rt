@@ -1,6 +1,8 @@
 // Which lengths are clear, shown backwards. A demand of s in a length of s or more clears every length from s to it, so the next length to
 // look at is s - 1. Rows are looked at in groups of four, and a group only where a deadline of it was passed since it was noted: what is
 // noted may be too much, never too little.
+#![tactic(auto)]
+
 ghost use Rattle.std.specs.Prelude.{◌≡◌, ◌≤◌, ◌+◌, ◌<◌};
 ghost use Rattle.model.specs.Sheet.{columns};
 ghost use Rattle.rows.specs.Inner.{Even};
@@ -14,8 +16,8 @@ use verdict::Look;
 // The jobs of a row with deadlines within the length: 0 if the length is below D, else floor((length − D) / T) + 1. Below D + T that is 1,
 // and nothing is divided.
 pub fn jobs_within(length: u32, deadline: u32, period: u32) -> u32
-    requires le_period { 1 ≤ period }
-    requires length_len_bound { length ≤ 16_777_216 }
+    requires some_period { 1 ≤ period }
+    requires within { length ≤ 16_777_216 }
     ensures { result ≡ jobs_within deadline period length }
 {
     if length < deadline {
@@ -55,14 +57,14 @@ pub fn look_at(costs: &[u32], deadlines: &[u32], periods: &[u32], row: u32, leng
 
 // What is noted of a group of rows: its demand in a length, and its last deadline within that length. The deadline says when to look again
 // and no more: nothing is claimed by it.
-#[derive(Drop)]
+#[derive(Clone, Copy)]
 pub struct Note {
     pub demand: u32,
     pub since: u32,
 }
 
 // What is left between two ends: every length up to `clear` is clear, and backward steps from behind stopped at `stopped`.
-#[derive(Drop)]
+#[derive(Clone, Copy)]
 pub struct Gap {
     pub clear: u32,
     pub stopped: u32,

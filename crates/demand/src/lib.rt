@@ -1,4 +1,6 @@
 // The exact test for one processor, on rows in either layout.
+#![tactic(auto)]
+
 mod climb;
 mod lengths;
 

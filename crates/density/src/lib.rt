@@ -1,4 +1,6 @@
 // The density test, on rows in either layout.
+#![tactic(auto)]
+
 mod sides;
 
 ghost use Rattle.std.specs.Prelude.{◌≡◌, ◌≤◌};

@@ -1,4 +1,6 @@
 // Hexadecimal digits: one digit read, in either case, and written, in upper case; and numbers of several digits, big end first.
+#![tactic(auto)]
+
 ghost use Rattle.std.specs.Prelude.{◌≡◌};
 ghost use Rattle.digits.specs.Digits.{digit_value, digit_byte, number, with_digits};
 

@@ -1,4 +1,6 @@
 // The two engines, which repeat passes until one changes nothing.
+#![tactic(auto)]
+
 ghost use Rattle.std.specs.Prelude.{◌≡◌, ◌+◌, ◌≤◌, ◌<◌, length};
 ghost use Rattle.model.specs.Refine.{round, rounds, at_once};
 ghost use Rattle.model.specs.Sheet.{columns, Allowed};

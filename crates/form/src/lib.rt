@@ -1,4 +1,6 @@
 // The form of a sheet: what may stand at each offset, and the first offset that is wrong.
+#![tactic(auto)]
+
 ghost use Rattle.std.specs.Prelude.{◌≡◌, ◌^◌, ◌<◌};
 ghost use Rattle.rows.specs.Words.{found_of};
 ghost use Rattle.grammar.specs.Grammar.{sheet_length, line_allows, rows_written, wrong_at, first_wrong};
@@ -13,7 +15,7 @@ pub const HEAD: usize = 7;
 pub const LINE: usize = 21;
 
 // Line one as written.
-#[derive(Drop)]
+#[derive(Clone, Copy)]
 pub struct FirstLine {
     pub processors: u32,
     pub rows: u32,

@@ -1,4 +1,6 @@
 // What other rows take of a row's time.
+#![tactic(auto)]
+
 ghost use Rattle.std.specs.Prelude.{◌≡◌, ◌+◌, ◌-◌, ◌≤◌, ◌<◌, length};
 ghost use Rattle.model.specs.Interference.{share, carried, bcl_term};
 ghost use Rattle.model.specs.Sheet.{columns};

@@ -1,4 +1,6 @@
 // What the end of a sheet answers, however its bytes came in: the rows are judged in the words that were read.
+#![tactic(auto)]
+
 ghost use Rattle.std.specs.Prelude.{◌≡◌, ◌++◌, ◌*◌, ◌≤◌, length, drop};
 ghost use Rattle.laws.specs.Fill.{at_front};
 ghost use Rattle.grammar.specs.Sheets.{between_refusal, read_refused};

@@ -1,4 +1,6 @@
 // RTA by jumps: climbs as the plain method does, but past every X that the terms at hand exclude.
+#![tactic(auto)]
+
 ghost use Rattle.std.specs.Prelude.{◌≡◌, ℕ, ◌+◌, ◌*◌, ◌-◌, ◌≤◌, ◌<◌, min, leb, length, get_or};
 ghost use Rattle.laws.specs.Sum.{total};
 ghost use Rattle.model.specs.Answer.{rta_answer};
@@ -13,7 +15,7 @@ use numbers::lesser;
 use pending::{Pending, fill_rooms, keep_pending, meet_others};
 
 // The rows kept and what is settled, with the X to go on from.
-#[derive(Drop)]
+#[derive(Clone, Copy)]
 pub struct Leap {
     pub left: u32,
     pub settled: u32,
@@ -21,7 +23,7 @@ pub struct Leap {
 }
 
 // The rooms below a number of steps, added up, and how many are no smaller.
-#[derive(Drop)]
+#[derive(Clone, Copy)]
 pub struct Split {
     pub full: u32,
     pub wide: u32,

@@ -189,9 +189,9 @@ joined_more f n = rw add-one
 pub block_joined : (f : ℕ → List ℕ) (i at size end next : ℕ) (block out l : List ℕ) → length (joined f i) ≡ at → length (f i) ≡ size
     → end ≡ at + size → next ≡ at + size → block ≡ f i → out ≡ joined f i ++ drop at l
     → take at out ++ (block ++ drop (end - at) (drop at out)) ≡ joined f (i + 1) ++ drop next l
-block_joined f i at size end next block out l front_size block_size is_end is_next is_Block stands =
+block_joined f i at size end next block out l front_size block_size is_end is_next is_block stands =
     let part : end - at ≡ size = omega arith in
-    rw (stands, is_Block, part, joined_more f i, is_next)
+    rw (stands, is_block, part, joined_more f i, is_next)
     (put_block (joined f i) (f i) l at size front_size block_size)
 
 -- With blocks in front of it the whole has the length that it had.

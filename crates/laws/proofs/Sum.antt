@@ -1,5 +1,5 @@
 -- Laws of sums over places, by induction on the number of places.
-use mathlib.Core.Path.{◌≡◌, refl, sym, ap₂}
+use mathlib.Core.Path.{◌≡◌, refl, sym, ap, ap₂}
 use mathlib.Core.Bool.{Bool, true, false}
 use mathlib.Core.Logic.{⊎_elim}
 use Prim.Native.Nat.{ℕ, zero, suc, ◌+◌, ◌*◌, ◌≤◌, ◌<◌}
@@ -112,8 +112,8 @@ unfolding total
 total-unless f k zero inside = absurd (omega arith)
 total-unless f k (suc n) inside =
     ⊎_elim (λ (last : k ≡ n).
-    rw last
-    (omega (arith, unless_here n f, total-same (unless n f) f n (λ i h. unless_other n f i (λ same. absurd (omega arith))))))
+    let here : unless k f n ≡ 0 = rw last (unless_here n f) in
+    omega (arith, here, ap f last, total-same (unless k f) f n (λ i h. unless_other k f i (λ same. absurd (omega arith)))))
     (λ (before : k < n). omega (arith, total-unless f k n before, unless_other k f n (λ same. absurd (omega arith))))
     (eq-or-lt_of_le (le_of_suc-le-suc inside))
 

@@ -1,4 +1,6 @@
 // Rows in columns: the checks that entries on columns share, and how triples are taken apart into columns.
+#![tactic(auto)]
+
 ghost use Rattle.std.specs.Prelude.{◌≡◌, ◌≤◌, ◌<◌, length};
 ghost use Rattle.model.specs.Sheet.{columns};
 ghost use Rattle.rows.specs.Words.{sheet_of, first_outside, found_of};

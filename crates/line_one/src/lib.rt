@@ -1,4 +1,6 @@
 // Line one, taken byte by byte.
+#![tactic(auto)]
+
 ghost use Rattle.std.specs.Prelude.{◌≡◌, ◌+◌, ◌^◌, ◌<◌, ◌≤◌};
 ghost use Rattle.grammar.specs.Grammar.{sheet_length};
 ghost use Rattle.pieces.specs.Feeding.{announced, digit_more, with_byte, reached_with};

@@ -1,4 +1,6 @@
 // Marks as one number: the mark of a row, and whether every row is marked.
+#![tactic(auto)]
+
 ghost use Rattle.std.specs.Prelude.{◌≡◌, ◌≤◌, ◌<◌};
 ghost use Rattle.laws.specs.Bits.{bit, bit_at, is_set, every};
 

@@ -1,4 +1,6 @@
 // Arithmetic that stops at 0, and the lesser of two.
+#![tactic(auto)]
+
 ghost use Rattle.std.specs.Prelude.{◌≡◌, ◌-◌, min};
 
 // The difference, or 0 where the second number is larger.

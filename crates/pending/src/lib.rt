@@ -1,5 +1,7 @@
 // The other rows of a turn in a list of their own, by five times 64 words: costs, periods, how far each bound is above the cost, shares,
 // and what a period brings.
+#![tactic(auto)]
+
 ghost use Rattle.std.specs.Prelude.{◌≡◌, ◌++◌, ℕ, ◌+◌, ◌*◌, ◌-◌, ◌≤◌, ◌<◌, min, length, drop};
 ghost use Rattle.laws.specs.Sum.{total};
 ghost use Rattle.laws.specs.Fill.{listed};
@@ -13,14 +15,14 @@ use interference::{share_in_window, work_in_time};
 use numbers::lesser;
 
 // What other rows add at X, and what that comes to for certain, one a step each.
-#[derive(Drop)]
+#[derive(Clone, Copy)]
 pub struct Rise {
     pub term: u32,
     pub top: u32,
 }
 
 // How many rows are kept, and what the others add: their whole share.
-#[derive(Drop)]
+#[derive(Clone, Copy)]
 pub struct Pending {
     pub left: u32,
     pub settled: u32,

@@ -1,10 +1,12 @@
 // A sheet that comes in pieces: the state kept between them, what each byte does to it, what its end answers, and what follows from it:
 // types, definitions and laws, no function.
+#![tactic(auto)]
+
 use grammar::Read;
 
 // How far a sheet has been read: the right bytes taken, whether the byte behind them was wrong (0 where none was), and line one so far.
 #[repr(C)]
-#[derive(Drop)]
+#[derive(Clone, Copy)]
 pub struct Reached {
     pub taken: u32,
     pub wrong: u32,
@@ -14,7 +16,7 @@ pub struct Reached {
 
 // The state between pieces: how far the sheet has been read, the words of its rows so far, and, once it has ended (0 before), its answer.
 #[repr(C)]
-#[derive(Drop)]
+#[derive(Clone, Copy)]
 pub struct Pieces {
     pub reached: Reached,
     pub words: [u32; 192],
@@ -23,21 +25,21 @@ pub struct Pieces {
 }
 
 // The answer that a piece finds: none yet, or the one that the end gave.
-#[derive(Drop)]
+#[derive(Clone, Copy)]
 pub enum Given {
     NotYet,
     Answer(Read),
 }
 
 // What a piece returns: the state behind it, and the answer where the end has been.
-#[derive(Drop)]
+#[derive(Clone, Copy)]
 pub struct Fed {
     pub state: Pieces,
     pub answer: Given,
 }
 
 // What the end returns: the state behind it, and the answer.
-#[derive(Drop)]
+#[derive(Clone, Copy)]
 pub struct Ended {
     pub state: Pieces,
     pub answer: Read,

@@ -1,4 +1,6 @@
 // Steps down a ray: where sweeps lower the same rows by the same amounts again and again, many of them are made at once.
+#![tactic(auto)]
+
 ghost use Rattle.std.specs.Prelude.{◌≡◌, ℕ, ◌+◌, ◌*◌, ◌-◌, ◌≤◌, ◌<◌, length, get_or};
 ghost use Rattle.model.specs.Inner.{along};
 ghost use Rattle.model.specs.Sheet.{columns};

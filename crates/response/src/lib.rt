@@ -1,4 +1,6 @@
 // One row's answer: BCL by its formula, RTA by climbing from the cost.
+#![tactic(auto)]
+
 ghost use Rattle.std.specs.Prelude.{◌≡◌, ℕ, ◌+◌, ◌-◌, ◌≤◌, ◌<◌, length, get_or};
 ghost use Rattle.laws.specs.Sum.{total};
 ghost use Rattle.model.specs.Interference.{rta_right};

@@ -1,4 +1,6 @@
 // The result sheet of rows, and the whole answer to a sheet's bytes.
+#![tactic(auto)]
+
 mod lines;
 
 ghost use Rattle.std.specs.Prelude.{◌≡◌, length};

@@ -1,4 +1,6 @@
 // Rows in lent words: cost, deadline and period by place, and the checks that several entries share. Every function here is total.
+#![tactic(auto)]
+
 mod inner;
 
 ghost use Rattle.std.specs.Prelude.{◌≡◌};
@@ -10,14 +12,14 @@ ghost use Rattle.rows.specs.Layouts.{in_triples, shape_refusal};
 use inner::{row_allowed_at, word_at};
 
 // What a search found: a place or a length, or that there is none.
-#[derive(Drop)]
+#[derive(Clone, Copy)]
 pub enum Found {
     At(u32),
     Nowhere,
 }
 
 // A refusal's number and place; number 0 is no refusal.
-#[derive(Drop)]
+#[derive(Clone, Copy)]
 pub struct Refusal {
     pub number: u32,
     pub place: u32,

@@ -1,4 +1,6 @@
 // Task sheets: read, written, and back again.
+#![tactic(auto)]
+
 mod checks;
 mod reader;
 mod writer;

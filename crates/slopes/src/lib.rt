@@ -1,4 +1,6 @@
 // What rows add along a ray, held under falling lines.
+#![tactic(auto)]
+
 ghost use Rattle.std.specs.Prelude.{◌≡◌, ℕ, ◌+◌, ◌*◌, ◌-◌, ◌≤◌, ◌<◌};
 ghost use Rattle.model.specs.Answer.{method_of};
 ghost use Rattle.model.specs.Interference.{share, carried};
@@ -10,7 +12,7 @@ use interference::{share_in_window, work_in_time};
 use numbers::{less, lesser};
 
 // A line that begins at a value and falls by a slope a step, and for how many steps it holds.
-#[derive(Drop)]
+#[derive(Clone, Copy)]
 pub struct Line {
     pub value: u32,
     pub slope: u32,
@@ -18,7 +20,7 @@ pub struct Line {
 }
 
 // A row's way down: its place, its deadline window, where its first step leads, its drop, the steps asked for, and the method.
-#[derive(Drop)]
+#[derive(Clone, Copy)]
 pub struct Way {
     pub row: u32,
     pub window: u32,

@@ -1,4 +1,6 @@
 // Taking a piece of a sheet: line one, and then the bytes of the rows' lines, each with its digit put where it belongs.
+#![tactic(auto)]
+
 ghost use Rattle.std.specs.Prelude.{◌≡◌, ◌+◌, ◌<◌, ◌^◌, ◌≤◌};
 ghost use Rattle.grammar.specs.Grammar.{head};
 ghost use Rattle.pieces.specs.Feeding.{words_with};
@@ -10,7 +12,7 @@ use line_one::{announced_length, digit_more, moved, take_first};
 use pieces::Reached;
 
 // Where the next byte of the rows' lines stands: its offset, its place in its line, and the first of the row's three words.
-#[derive(Drop)]
+#[derive(Clone, Copy)]
 pub struct Spot {
     pub taken: u32,
     pub place: u32,

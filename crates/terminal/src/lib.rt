@@ -1,4 +1,6 @@
 // What the program does: the sheet on standard input is read, its answer is written to standard output, and nothing else is decided.
+#![tactic(auto)]
+
 ghost use Rattle.std.specs.Prelude.{◌≡◌, List, ◌++◌, ℕ, ◌≤◌, ◌<◌, length, take, drop};
 ghost use Rattle.grammar.specs.Grammar.{sheet_length};
 ghost use Rattle.report.specs.Result.{answer_text};

@@ -1,4 +1,6 @@
 // A row's turn by the quicker way, and passes of turns over all rows.
+#![tactic(auto)]
+
 ghost use Rattle.std.specs.Prelude.{◌≡◌, ◌+◌, ◌≤◌, ◌<◌, ◌*◌, ◌^◌, length};
 ghost use Rattle.laws.specs.Bits.{bit};
 ghost use Rattle.model.specs.Answer.{method_of, answer};
@@ -117,7 +119,7 @@ pub fn fill_turns(
 }
 
 // What a pass tells: whether it changed a bound, and, where it did not, the marks.
-#[derive(Drop)]
+#[derive(Clone, Copy)]
 pub struct Tally {
     pub moved: bool,
     pub seen: u64,

@@ -1,5 +1,7 @@
 // Every number of the scope document's list of runs, every one-row and one-processor case of its table, and the density test's numbers, taken
 // through the public entries and written one to a line.
+#![tactic(auto)]
+
 mod case_s;
 mod densities;
 mod exact;

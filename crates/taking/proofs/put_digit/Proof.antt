@@ -63,7 +63,7 @@ returns-2 c =
     let s = c.before.before.before.before.before.before.before.before in
     let p = s.args in
     no_word p.spot.taken p.byte p.words.now
-    (λ w below facts. let is_IsWord = (only p.spot s.requires w facts).2 in omega arith)
+    (λ w below facts. let is_word = (only p.spot s.requires w facts).2 in omega arith)
 
 returns-3 : tie.Need-returns-3
 returns-3 c =

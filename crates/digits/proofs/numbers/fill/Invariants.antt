@@ -1,0 +1,18 @@
+-- The loop of `fill`: what lasts from turn to turn, and what falls.
+use Prim.Native.Nat.{◌≤◌}
+use mathlib.Core.Path.{◌≡◌, refl, ◌∙◌}
+use mathlib.Core.List.{◌++◌, append-nil}
+use native.Mathlib.Nat.{le_refl}
+use native.Mathlib.Omega.{arith}
+use lib.ListN.{length, drop, length-set}
+use lib.Seq.{drop-length}
+use Rattle.digits.specs.Digits.{digit_byte, digits}
+use Rattle.digits.proofs.Digit.{byte_last}
+use Rattle.digits.proofs.Number.{digits_store}
+use Rattle.digits.proofs.numbers.fill.Given as goal
+
+abbrev pub invariant-loop-left : goal.invariant-loop-left
+invariant-loop-left l = (l.left ≤ length l.out) × (length l.out ≡ length l.initial.out) × (digits l.left l.rest ++ drop l.left l.out ≡ digits (length l.initial.out) l.value)
+
+abbrev pub decreases-loop-left : goal.decreases-loop-left
+decreases-loop-left l = l.left

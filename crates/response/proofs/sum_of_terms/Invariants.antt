@@ -1,0 +1,18 @@
+-- The loop of `sum_of_terms`: what lasts from turn to turn, and what falls.
+use borrow.Author.Rules.{rules}
+use mathlib.Core.Path.{◌≡◌, refl, ◌∙◌, ap}
+use Prim.Native.Nat.{◌*◌, ◌-◌, ◌≤◌}
+use Rattle.model.specs.Sheet.{columns}
+use Rattle.model.proofs.Sheet.{few_rows}
+use Rattle.laws.specs.Sum.{total}
+use Rattle.laws.proofs.Sum.{total_step}
+use Rattle.refinement.specs.Inner.{listed_share, term_of}
+use Rattle.refinement.proofs.Limits.{term_within_cap}
+use native.Mathlib.Omega.{arith}
+use Rattle.response.proofs.sum_of_terms.Given as goal
+
+abbrev pub invariant-loop-other : goal.invariant-loop-other
+invariant-loop-other l = (l.other ≤ l.count) × (l.sum ≡ total (term_of (columns l.costs l.deadlines l.periods) l.bounds (listed_share l.taken) l.x l.cap) l.other) × (l.sum ≤ l.other * 1_000_000)
+
+abbrev pub decreases-loop-other : goal.decreases-loop-other
+decreases-loop-other l = l.count - l.other
