@@ -49,8 +49,8 @@ loop-next-preserved c =
       omega arith,
       length-set q.room q.next (here.result.top - here.result.term) ∙ q.invariant.1,
       listed_more (room_at c.args.others.now c.args.x c.args.cap) q.next c.args.room.now q.room (here.result.top - here.result.term) (omega (arith, c.requires.2)) q.invariant.2
-          (ap₂ ◌-◌ here.ensures.1 here.ensures.0),
-      omega (arith, here.ensures.0, total_step (term_at c.args.others.now c.args.x c.args.cap) q.next, q.invariant.3),
+          (ap₂ ◌-◌ here.ensures.comes here.ensures.adds),
+      omega (arith, here.ensures.adds, total_step (term_at c.args.others.now c.args.x c.args.cap) q.next, q.invariant.3),
       omega (arith, within.0, q.invariant.4),
       omega (arith, within.1, q.invariant.5),
     )
@@ -61,10 +61,4 @@ shape_of-room c = c.loop-next.invariant.1
 pub returns : goal.returns
 returns c =
     let q = c.loop-next in
-    let done : q.next ≡ c.args.rows.left = omega arith in (
-      q.invariant.3 ∙ ap (λ (n : ℕ). kept_sum c.args.others.now n c.args.rows.settled c.args.x c.args.cap) done,
-      (
-        q.invariant.2 ∙ ap (λ (n : ℕ). listed (room_at c.args.others.now c.args.x c.args.cap) n ++ drop n c.args.room.now) done,
-        (q.invariant.4, omega (arith, q.invariant.5, c.requires.0.small)),
-      ),
-    )
+    let done : q.next ≡ c.args.rows.left = omega arith in record { summed = q.invariant.3 ∙ ap (λ (n : ℕ). kept_sum c.args.others.now n c.args.rows.settled c.args.x c.args.cap) done; filled = q.invariant.2 ∙ ap (λ (n : ℕ). listed (room_at c.args.others.now c.args.x c.args.cap) n ++ drop n c.args.room.now) done; small = (q.invariant.4, omega (arith, q.invariant.5, c.requires.0.small)) }

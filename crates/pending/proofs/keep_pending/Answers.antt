@@ -9,6 +9,7 @@ use Rattle.laws.proofs.Sum.{total_step}
 use Rattle.refinement.specs.Inner.Kept.{cost_at, period_at, ahead_at, share_at, rise_at, term_from, term_at, KeptRow, KeptOf, kept_sum}
 use Rattle.refinement.proofs.Kept.{Holds, put_other, holds_term, holds_kept, holds_through, holds_self, kept_more, kept_settled, sum_more, sum_settled, whole_share}
 use Rattle.pending.proofs.keep_pending.Goals as goal
+use Rattle.pending.proofs.keep_pending.Goals.{then-here-share, else-here-share}
 use Rattle.pending.proofs.keep_pending.Goals.{After-term_and_top-here, In-loop-next}
 
 pub loop-next-init : goal.loop-next-init
@@ -92,18 +93,18 @@ loop-next-preserved c =
     let row = kept (goal.at.loop-next-preserved c).In-loop-next in
     let one_more : 64 - (c.args.rows.left - (q.next + 1)) ≡ 64 - (c.args.rows.left - q.next) + 1 = omega (arith, c.requires.0.rows.few) in (
       omega arith,
-      ⊎_elim (λ w. omega (arith, w.2, q.invariant.1)) (λ w. omega (arith, w.2, q.invariant.1)) c.if-here-share.branch,
+      elim c.if-here-share.branch [ then-here-share w ↦ omega (arith, w.left-is, q.invariant.1) | else-here-share w ↦ omega (arith, w.left-is, q.invariant.1) ],
       rw one_more
-          (⊎_elim (λ w. rw (w.1, w.2, put) (kept_more q.others q.left _ _ _ _ _ rows place _ q.settled q.invariant.2 row))
-          (λ w. rw (w.1, w.2, put) (kept_settled q.others q.left _ _ _ _ _ rows place _ q.settled q.invariant.2 row.small_share)) c.if-here-share.branch),
+          (elim c.if-here-share.branch [ then-here-share w ↦ rw (w.settled-is, w.left-is, put) (kept_more q.others q.left _ _ _ _ _ rows place _ q.settled q.invariant.2 row) | else-here-share w ↦ rw (w.settled-is, w.left-is, put) (kept_settled q.others q.left _ _ _ _ _ rows place _ q.settled q.invariant.2 row.small_share) ]),
       λ j from below.
           rw put
           (holds_through _ q.others j _ _ _ _ _ (put_other q.others q.left _ _ _ _ _ j below place (λ here. omega (arith, q.invariant.1))) (q.invariant.3 j (omega arith) below)),
       λ d.
-          ⊎_elim (λ w. rw (w.1, w.2, put) (sum_more q.others q.left _ _ _ _ _ rows place q.settled _ _ ∙ passed (goal.at.loop-next-preserved c).In-loop-next d))
-          (λ w. rw (w.1, w.2, put)
-          (sum_settled q.others q.left _ _ _ _ _ rows place q.settled _ _ (settles (goal.at.loop-next-preserved c).After-term_and_top-here w.0.left d) ∙ passed (goal.at.loop-next-preserved c).In-loop-next d))
-          c.if-here-share.branch,
+          elim c.if-here-share.branch [
+            | then-here-share w ↦ rw (w.settled-is, w.left-is, put) (sum_more q.others q.left _ _ _ _ _ rows place q.settled _ _ ∙ passed (goal.at.loop-next-preserved c).In-loop-next d)
+            | else-here-share w ↦ rw (w.settled-is, w.left-is, put)
+                (sum_settled q.others q.left _ _ _ _ _ rows place q.settled _ _ (settles (goal.at.loop-next-preserved c).After-term_and_top-here w.if-here-share.false d) ∙ passed (goal.at.loop-next-preserved c).In-loop-next d)
+          ],
     )
 
 pub shape_of-others : goal.shape_of-others

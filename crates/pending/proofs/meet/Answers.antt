@@ -15,6 +15,7 @@ use Rattle.refinement.proofs.Limits.{share-within}
 use Rattle.refinement.proofs.Sizes.{sizes}
 use Rattle.refinement.proofs.Kept.{kept_more, kept_settled, sum_more, sum_settled, small_share, term_numbers}
 use Rattle.pending.proofs.meet.Goals as goal
+use Rattle.pending.proofs.meet.Goals.{then-share-gt1, else-share-gt1}
 use Rattle.pending.proofs.meet.Goals.{After-rise_of-rise, In-loop-place}
 
 pub loop-place-init : goal.loop-place-init
@@ -97,13 +98,13 @@ loop-place-preserved c =
     let row = numbers (goal.at.loop-place-preserved c).After-rise_of-rise in (
       omega (arith, q.invariant.0),
       omega arith,
-      ⊎_elim (λ w. rw (w.1, w.2, put) (kept_more q.others q.left own period ahead taken rise rows place q.place q.settled q.invariant.2 row))
-          (λ w. rw (w.1, w.2, put) (kept_settled q.others q.left own period ahead taken rise rows place q.place q.settled q.invariant.2 row.small_share)) c.if-share-gt1.branch,
+      elim c.if-share-gt1.branch [ then-share-gt1 w ↦ rw (w.settled-is, w.left-is, put) (kept_more q.others q.left own period ahead taken rise rows place q.place q.settled q.invariant.2 row) | else-share-gt1 w ↦ rw (w.settled-is, w.left-is, put) (kept_settled q.others q.left own period ahead taken rise rows place q.place q.settled q.invariant.2 row.small_share) ],
       λ x cap window some-cap.
-          ⊎_elim (λ w. rw (w.1, w.2, put) (omega (arith, sum_more q.others q.left own period ahead taken rise rows place q.settled x cap, gathered (goal.at.loop-place-preserved c).After-rise_of-rise x cap window some-cap)))
-          (λ w. rw (w.1, w.2, put)
-          (omega (arith, sum_settled q.others q.left own period ahead taken rise rows place q.settled x cap (small_share own period ahead taken x cap row.sizes.some_cost window some-cap (omega (arith, w.0.left))), gathered (goal.at.loop-place-preserved c).After-rise_of-rise x cap window some-cap)))
-          c.if-share-gt1.branch,
+          elim c.if-share-gt1.branch [
+            | then-share-gt1 w ↦ rw (w.settled-is, w.left-is, put) (omega (arith, sum_more q.others q.left own period ahead taken rise rows place q.settled x cap, gathered (goal.at.loop-place-preserved c).After-rise_of-rise x cap window some-cap))
+            | else-share-gt1 w ↦ rw (w.settled-is, w.left-is, put)
+                (omega (arith, sum_settled q.others q.left own period ahead taken rise rows place q.settled x cap (small_share own period ahead taken x cap row.sizes.some_cost window some-cap (omega (arith, w.if-share-gt1.false))), gathered (goal.at.loop-place-preserved c).After-rise_of-rise x cap window some-cap))
+          ],
     )
 
 pub shape_of-others : goal.shape_of-others
@@ -113,4 +114,4 @@ pub returns : goal.returns
 returns c =
     let q = c.loop-place in
     let done : q.place ≡ c.args.to = omega (arith, q.invariant.1) in
-    (rw (← done) q.invariant.2, λ x cap window some-cap. rw (← done) (q.invariant.3 x cap window some-cap))
+    record { kept = rw (← done) q.invariant.2; sums = λ x cap window some-cap. rw (← done) (q.invariant.3 x cap window some-cap) }

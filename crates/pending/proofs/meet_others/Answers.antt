@@ -44,9 +44,9 @@ returns c =
     let first = c.meet-ahead.ensures in
     let second = c.meet.ensures in
     record {
-      fewer = omega (arith, second.0.small, c.requires.2);
-      kept = record { rows = second.0.rows; small = omega (arith, second.0.small, c.requires.2, few_rows _ c.requires.0.rows) };
+      fewer = omega (arith, second.kept.small, c.requires.2);
+      kept = record { rows = second.kept.rows; small = omega (arith, second.kept.small, c.requires.2, few_rows _ c.requires.0.rows) };
       same = λ z from.
           met_all s c.args.bounds.now c.args.row c.args.window c.args.count z _ _ (omega (arith, c.requires.1, c.requires.2)) c.requires.2 c.requires.3
-          (first.1 z _ (omega (arith, sized.positive)) (omega arith)) (second.1 z _ (omega (arith, sized.positive)) (omega arith));
+          (first.sums z _ (omega (arith, sized.positive)) (omega arith)) (second.sums z _ (omega (arith, sized.positive)) (omega arith));
     }
