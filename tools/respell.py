@@ -12,7 +12,7 @@ import re
 import sys
 
 LISTED = os.path.join(os.path.dirname(os.path.realpath(__file__)), "respelled.txt")
-IDENT = re.compile(r"[A-Za-z_ℕℤ≤≡◌₂][A-Za-z0-9_'ℕℤ≤≡◌₂]*(?:-[A-Za-z0-9_'ℕℤ≤≡◌₂*+]+)*")
+IDENT = re.compile(r"(?<![0-9A-Za-z_'])[A-Za-z_ℕℤ≤≡◌₂][A-Za-z0-9_'ℕℤ≤≡◌₂]*(?:-[A-Za-z0-9_'ℕℤ≤≡◌₂*+]+)*")
 CAMEL = re.compile(r"^[a-z][a-z0-9_']*(?:[A-Z][A-Za-z0-9_']*)+$")
 KIT_USE = re.compile(r"^(?:ghost )?use (?!Rattle\.(?:%s)\.)(\S+?)\.\{(.*?)\};?$" % "|".join(p.split("/")[1] for p in glob.glob("crates/*")), re.M)
 OWN_USE = re.compile(r"^(?:ghost )?use Rattle\.(?:%s)\.(\S+?)\.\{(.*?)\};?$" % "|".join(p.split("/")[1] for p in glob.glob("crates/*")), re.M)

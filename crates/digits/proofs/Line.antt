@@ -33,8 +33,8 @@ pub with_digits-upper : (front : List ℕ) (count value : ℕ) → map upper fro
     → map upper (front ++ digits count value) ≡ front ++ digits count value
 with_digits-upper front count value same = mapped_append upper front (digits count value) same (digits-upper count value)
 
-pub line-upper : (front : List ℕ) → map upper front ≡ front → map upper (front ++ (0x0_a ∷ [])) ≡ front ++ (0x0_a ∷ [])
-line-upper front same = mapped_append upper front (0x0_a ∷ []) same (ap (λ (b : ℕ). b ∷ []) (upper_stays 0x0_a (λ above below. omega arith)))
+pub line-upper : (front : List ℕ) → map upper front ≡ front → map upper (front ++ (0x0A ∷ [])) ≡ front ++ (0x0A ∷ [])
+line-upper front same = mapped_append upper front (0x0A ∷ []) same (ap (λ (b : ℕ). b ∷ []) (upper_stays 0x0A (λ above below. omega arith)))
 
 -- The last byte of a line in the making is inside it, and stored there it leaves the length as it was.
 pub end_inside : {before front now : List ℕ} {at : ℕ} → Begun before front at now → length before ≡ at + 1 → at < length now

@@ -23,7 +23,7 @@ pub line_kind : (kind last place byte : ℕ) → place ≡ 1 → line_allows kin
 unfolding line_allows
 line_kind kind last place byte second = pick_no _ _ _ (ne_eqb place 0 (λ first. omega arith)) ∙ pick_yes _ _ _ (eq-eqb place 1 second)
 
-pub line_end : (kind last place byte : ℕ) → 2 ≤ place → place ≡ last → line_allows kind last place byte ≡ eqb byte 0x0_a
+pub line_end : (kind last place byte : ℕ) → 2 ≤ place → place ≡ last → line_allows kind last place byte ≡ eqb byte 0x0A
 unfolding line_allows
 line_end kind last place byte later at_end =
     pick_no _ _ _ (ne_eqb place 0 (λ first. omega arith))

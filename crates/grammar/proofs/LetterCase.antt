@@ -22,7 +22,7 @@ use Rattle.grammar.specs.Sheets.{formed_refusal, read_refusal, read_answer, read
 place_upper : (kind last place byte : ℕ) → kind < 0x41 → line_allows kind last place (upper byte) ≡ line_allows kind last place byte
 unfolding line_allows is_digit
 place_upper kind last place byte sign =
-    rw (upper_apart byte 0x30 (omega arith), upper_apart byte kind sign, upper_apart byte 0x0_a (omega arith), upper_value byte)
+    rw (upper_apart byte 0x30 (omega arith), upper_apart byte kind sign, upper_apart byte 0x0A (omega arith), upper_value byte)
 
 allowed_upper : (rows offset byte : ℕ) → sheet_allows rows offset (upper byte) ≡ sheet_allows rows offset byte
 unfolding sheet_allows

@@ -37,7 +37,7 @@ same_allowed bytes other place i byte within alike =
 
 -- A byte that may stand at a place of a line, and at an offset of a sheet.
 unfoldable line_filler : ℕ → ℕ → ℕ → ℕ
-line_filler kind last place = pick (eqb place 1) kind (pick (eqb place last) 0x0_a 0x30)
+line_filler kind last place = pick (eqb place 1) kind (pick (eqb place last) 0x0A 0x30)
 
 unfoldable filler : ℕ → ℕ
 filler offset = pick (ltb offset head) (line_filler 0x31 (head - 1) offset) (line_filler 0x32 (line - 1) ((offset - head) % line))
@@ -73,10 +73,10 @@ line_filled kind last place long =
     (below_or_from place 1)
   where
     split : 2 ≤ place → (b : Bool) → eqb place last ≡ b
-        → line_allows kind last place (pick (eqb place 1) kind (pick (eqb place last) 0x0_a 0x30)) ≡ true
+        → line_allows kind last place (pick (eqb place 1) kind (pick (eqb place last) 0x0A 0x30)) ≡ true
     split later true is_end =
         line_end kind last place _ later (eqb-true place last is_end)
-        ∙ eq-eqb _ 0x0_a (pick_no _ _ _ (ne_eqb place 1 (λ same. omega arith)) ∙ pick_yes _ _ _ is_end)
+        ∙ eq-eqb _ 0x0A (pick_no _ _ _ (ne_eqb place 1 (λ same. omega arith)) ∙ pick_yes _ _ _ is_end)
     split later false not_end =
         line_digit kind last place _ later (eqb-false place last not_end)
         ∙ ap is_digit (pick_no _ _ _ (ne_eqb place 1 (λ same. omega arith)) ∙ pick_no _ _ _ not_end)

@@ -50,8 +50,8 @@ module _ (bytes : List ℕ) (at kind last : ℕ) (stands : LineAt bytes at kind 
   kind_stands : upper_at bytes (at + 1) ≡ kind
   kind_stands = known _ kind plain (sym (line_kind kind last 1 _ refl) ∙ stands 1 (omega arith))
 
-  end_stands : upper_at bytes (at + last) ≡ 0x0_a
-  end_stands = known _ 0x0_a (omega arith) (sym (line_end kind last last _ long refl) ∙ stands last (omega arith))
+  end_stands : upper_at bytes (at + last) ≡ 0x0A
+  end_stands = known _ 0x0A (omega arith) (sym (line_end kind last last _ long refl) ∙ stands last (omega arith))
 
   digit_stands : (j : ℕ) → 2 ≤ j → j < last → is_digit (get_or bytes (at + j) 0) ≡ true
   digit_stands j from below = sym (line_digit kind last j _ from (λ same. omega arith)) ∙ stands j (omega arith)

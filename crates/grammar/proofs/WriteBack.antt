@@ -71,8 +71,8 @@ module _ (s : Sheet) (processors : ℕ) where
       number_of_digits (sheet_bytes s processors) 2 2 processors small
       (λ i h.
       in_first_line (2 + i) (omega arith)
-      ∙ ap (λ (l : List ℕ). get_or l (2 + i) 0) (append_assoc (digits 2 0x01 ++ digits 2 processors) (digits 2 s.rows) (0x0_a ∷ []))
-      ∙ get_d_between (digits 2 0x01) (digits 2 processors) (digits 2 s.rows ++ (0x0_a ∷ [])) 2 i (digits-length 2 0x01)
+      ∙ ap (λ (l : List ℕ). get_or l (2 + i) 0) (append_assoc (digits 2 0x01 ++ digits 2 processors) (digits 2 s.rows) (0x0A ∷ []))
+      ∙ get_d_between (digits 2 0x01) (digits 2 processors) (digits 2 s.rows ++ (0x0A ∷ [])) 2 i (digits-length 2 0x01)
       (rw digits-length h))
 
   rows_back : s.rows < 16 ^ 2 → rows_written (sheet_bytes s processors) ≡ s.rows
@@ -81,7 +81,7 @@ module _ (s : Sheet) (processors : ℕ) where
       number_of_digits (sheet_bytes s processors) 4 2 s.rows small
       (λ i h.
       in_first_line (4 + i) (omega arith)
-      ∙ get_d_between (digits 2 0x01 ++ digits 2 processors) (digits 2 s.rows) (0x0_a ∷ []) 4 i
+      ∙ get_d_between (digits 2 0x01 ++ digits 2 processors) (digits 2 s.rows) (0x0A ∷ []) 4 i
       (simp (length-append, digits-length)) (rw digits-length h))
 
   -- A number of a row's line read back.
@@ -108,8 +108,8 @@ module _ (s : Sheet) (processors : ℕ) where
       field_back k 2 (s.cost k) here (omega arith) small
       (λ i h.
       ap (λ (l : List ℕ). get_or l (2 + i) 0)
-      (append_assoc (digits 2 0x02 ++ c ++ d) t (0x0_a ∷ []) ∙ append_assoc (digits 2 0x02 ++ c) d (t ++ (0x0_a ∷ [])))
-      ∙ get_d_between (digits 2 0x02) c (d ++ (t ++ (0x0_a ∷ []))) 2 i (digits-length 2 0x02) (rw digits-length h))
+      (append_assoc (digits 2 0x02 ++ c ++ d) t (0x0A ∷ []) ∙ append_assoc (digits 2 0x02 ++ c) d (t ++ (0x0A ∷ [])))
+      ∙ get_d_between (digits 2 0x02) c (d ++ (t ++ (0x0A ∷ []))) 2 i (digits-length 2 0x02) (rw digits-length h))
 
   deadline_back : (k : ℕ) → k < s.rows → s.deadline k < 16 ^ 6 → number (sheet_bytes s processors) (head + line * k + 8) 6 ≡ s.deadline k
   unfolding line line_of row_line
@@ -119,15 +119,15 @@ module _ (s : Sheet) (processors : ℕ) where
       let t = digits 6 (s.period k) in
       field_back k 8 (s.deadline k) here (omega arith) small
       (λ i h.
-      ap (λ (l : List ℕ). get_or l (8 + i) 0) (append_assoc (digits 2 0x02 ++ c ++ d) t (0x0_a ∷ []))
-      ∙ get_d_between (digits 2 0x02 ++ c) d (t ++ (0x0_a ∷ [])) 8 i (simp (length-append, digits-length)) (rw digits-length h))
+      ap (λ (l : List ℕ). get_or l (8 + i) 0) (append_assoc (digits 2 0x02 ++ c ++ d) t (0x0A ∷ []))
+      ∙ get_d_between (digits 2 0x02 ++ c) d (t ++ (0x0A ∷ [])) 8 i (simp (length-append, digits-length)) (rw digits-length h))
 
   period_back : (k : ℕ) → k < s.rows → s.period k < 16 ^ 6 → number (sheet_bytes s processors) (head + line * k + 14) 6 ≡ s.period k
   unfolding line line_of row_line
   period_back k here small =
       field_back k 14 (s.period k) here (omega arith) small
       (λ i h.
-      get_d_between (digits 2 0x02 ++ digits 6 (s.cost k) ++ digits 6 (s.deadline k)) (digits 6 (s.period k)) (0x0_a ∷ []) 14 i
+      get_d_between (digits 2 0x02 ++ digits 6 (s.cost k) ++ digits 6 (s.deadline k)) (digits 6 (s.period k)) (0x0A ∷ []) 14 i
       (simp (length-append, digits-length)) (rw digits-length h))
 
   -- Each byte may stand where it stands, in line one and in the rows.

@@ -22,7 +22,7 @@ unfoldable pub line_allows : ℕ → ℕ → ℕ → ℕ → Bool
 line_allows kind last place byte =
     pick (eqb place 0) (eqb byte 0x30)
     (pick (eqb place 1) (eqb byte kind)
-    (pick (eqb place last) (eqb byte 0x0_a)
+    (pick (eqb place last) (eqb byte 0x0A)
     (is_digit byte)))
 
 -- Whether a byte may stand at an offset of a sheet that announces so many rows: line one is of kind `1`, then one line of kind `2` a row,

@@ -7,11 +7,11 @@ use Rattle.grammar.specs.Grammar.{head, line, rows_written}
 
 -- Line one: `01`, processors (2 digits), rows (2 digits), 0A.
 unfoldable pub first_line : ℕ → ℕ → List ℕ
-first_line processors rows = digits 2 0x01 ++ digits 2 processors ++ digits 2 rows ++ (0x0_a ∷ [])
+first_line processors rows = digits 2 0x01 ++ digits 2 processors ++ digits 2 rows ++ (0x0A ∷ [])
 
 -- A row's line: `02`, then C, D, T with 6 digits each, 0A.
 unfoldable pub row_line : ℕ → ℕ → ℕ → List ℕ
-row_line c d t = digits 2 0x02 ++ digits 6 c ++ digits 6 d ++ digits 6 t ++ (0x0_a ∷ [])
+row_line c d t = digits 2 0x02 ++ digits 6 c ++ digits 6 d ++ digits 6 t ++ (0x0A ∷ [])
 
 -- The line of the row at place k.
 unfoldable pub line_of : Sheet → ℕ → List ℕ

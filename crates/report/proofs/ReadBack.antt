@@ -33,8 +33,8 @@ module _ (bytes : List ℕ) (at kind small count value : ℕ)
       (λ i h.
       ap (λ (x : ℕ). get_or bytes x 0) (omega arith)
       ∙ stands (2 + i) (omega arith)
-      ∙ ap (λ (l : List ℕ). get_or l (2 + i) 0) (append_assoc (digits 2 kind ++ digits 2 small) (digits count value) (0x0_a ∷ []))
-      ∙ get_d_between (digits 2 kind) (digits 2 small) (digits count value ++ (0x0_a ∷ [])) 2 i (digits-length 2 kind) (rw digits-length h))
+      ∙ ap (λ (l : List ℕ). get_or l (2 + i) 0) (append_assoc (digits 2 kind ++ digits 2 small) (digits count value) (0x0A ∷ []))
+      ∙ get_d_between (digits 2 kind) (digits 2 small) (digits count value ++ (0x0A ∷ [])) 2 i (digits-length 2 kind) (rw digits-length h))
 
   value_back : value < 16 ^ count → number bytes (at + 4) count ≡ value
   unfolding line_text
@@ -43,7 +43,7 @@ module _ (bytes : List ℕ) (at kind small count value : ℕ)
       (λ i h.
       ap (λ (x : ℕ). get_or bytes x 0) (omega arith)
       ∙ stands (4 + i) (omega arith)
-      ∙ get_d_between (digits 2 kind ++ digits 2 small) (digits count value) (0x0_a ∷ []) 4 i
+      ∙ get_d_between (digits 2 kind ++ digits 2 small) (digits count value) (0x0A ∷ []) 4 i
       (length-append (digits 2 kind) (digits 2 small) ∙ omega (arith, digits-length 2 kind, digits-length 2 small)) (rw digits-length h))
 
 -- A bit has two digits to spare.

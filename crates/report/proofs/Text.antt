@@ -48,7 +48,7 @@ result_length_lem rows marks words =
 -- The line of a refused sheet has 9 bytes.
 pub refusal_length : (number place : ℕ) → length (refusal_line number place) ≡ 9
 unfolding refusal_line
-refusal_length number place = line-length 0x1_f number 4 place
+refusal_length number place = line-length 0x1F number 4 place
 
 -- A line is in upper case, and so are a result sheet and the line of a refused one.
 line_in_upper : (kind small count value : ℕ) → map upper (line_text kind small count value) ≡ line_text kind small count value
@@ -63,4 +63,4 @@ result_in_upper rows marks words =
 
 pub refusal_in_upper : (number place : ℕ) → map upper (refusal_line number place) ≡ refusal_line number place
 unfolding refusal_line
-refusal_in_upper number place = line_in_upper 0x1_f number 4 place
+refusal_in_upper number place = line_in_upper 0x1F number 4 place

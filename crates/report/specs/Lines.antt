@@ -18,7 +18,7 @@ result_length rows = result_head + result_line * rows
 
 -- Every line here: its kind and a small number (2 digits each), a number of so many digits, 0A.
 unfoldable pub line_text : ℕ → ℕ → ℕ → ℕ → List ℕ
-line_text kind small count value = digits 2 kind ++ digits 2 small ++ digits count value ++ (0x0_a ∷ [])
+line_text kind small count value = digits 2 kind ++ digits 2 small ++ digits count value ++ (0x0A ∷ [])
 
 -- Line one: `11`, accepted (`01` or `00`), rows (2 digits), 0A.
 unfoldable pub result_first_line : ℕ → ℕ → List ℕ
@@ -38,4 +38,4 @@ result_bytes rows marks words = result_first_line (bit (every (is_set marks) row
 
 -- Where the program refuses it writes one line: `1F`, number (2 digits), place (4 digits), 0A.
 unfoldable pub refusal_line : ℕ → ℕ → List ℕ
-refusal_line number place = line_text 0x1_f number 4 place
+refusal_line number place = line_text 0x1F number 4 place

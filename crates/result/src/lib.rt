@@ -150,7 +150,7 @@ fn write_refusal(number: u32, place: u32, out: &mut [u8]) -> Written
             length: 0,
         };
     }
-    lines::put_line(&mut out[..lines::REFUSED], 0x1_f, number, 4, place);
+    lines::put_line(&mut out[..lines::REFUSED], 0x1F, number, 4, place);
     Written {
         refusal: 0,
         place: 0,

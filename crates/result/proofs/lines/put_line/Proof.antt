@@ -47,11 +47,11 @@ full : (c : tie.After-slice-known4) → length (start c).args.out.now ≡ 4 + (s
 full c = omega (arith, (start c).requires)
 
 same_length : tie.Need-same-length
-same_length c = ended-length 0x0_a (begun c) (full c)
+same_length c = ended-length 0x0A (begun c) (full c)
 
 returns : tie.Need-returns
 unfolding line_text
-returns c = line-ended 0x0_a (begun c) (full c)
+returns c = line-ended 0x0A (begun c) (full c)
 
 pub put-line-spec : {M : Type 1} → statement M
 put-line-spec =

@@ -1,0 +1,15 @@
+-- The loop of `copy_front`: what lasts from turn to turn, and what falls.
+use Prim.Native.Nat.{◌-◌, ◌≤◌}
+use mathlib.Core.Path.{◌≡◌, refl, ◌∙◌}
+use mathlib.Core.List.{◌++◌}
+use native.Mathlib.Omega.{arith}
+use lib.ListN.{length, get_or, drop, length-set}
+use Rattle.laws.specs.Fill.{listed}
+use Rattle.laws.proofs.Fill.{listed-none, listed_more, listed_back}
+use Rattle.sheet.proofs.reader.copy_front.Given as goal
+
+abbrev pub invariant-loop-copied : goal.invariant-loop-copied
+invariant-loop-copied l = (l.copied ≤ length l.from) × (length l.to ≡ length l.initial.to) × (l.to ≡ listed (λ i. get_or l.from i 0) l.copied ++ drop l.copied l.initial.to)
+
+abbrev pub decreases-loop-copied : goal.decreases-loop-copied
+decreases-loop-copied l = length l.from - l.copied

@@ -1,0 +1,51 @@
+-- A digit put where it belongs: the word at a spot is the only one with digits there, and a spot at no digit has none.
+use mathlib.Core.Path.{◌≡◌, ◌∙◌, ap}
+use Prim.Native.Nat.{ℕ, ◌+◌, ◌-◌, ◌/◌, ◌≤◌, ◌<◌}
+use native.Mathlib.Omega.{arith}
+use borrow.Author.Rules.{rules}
+use lib.ListN.{set}
+use Rattle.pieces.proofs.Words.{ItsWord, no_word, one_word}
+use Rattle.taking.specs.declared.Spot.{Spot}
+use Rattle.taking.specs.Inner.{Placed}
+use Rattle.taking.proofs.put_digit.Goals as goal
+
+-- The word with digits at a spot.
+module _ (spot : Spot) (placed : Placed spot) where
+  its : 2 ≤ spot.place → spot.place < 20 → ItsWord (spot.first + (spot.place - 2) / 6) spot.taken
+  its digit inside =
+      let place = placed.place in
+      let first = placed.first in
+      record { past = placed.past; digit = omega arith; inside = omega arith; word = omega arith }
+
+  only : (w : ℕ) → ItsWord w spot.taken → (2 ≤ spot.place) × (spot.place < 20) × (w ≡ spot.first + (spot.place - 2) / 6)
+  only w facts =
+      let place = placed.place in
+      let first = placed.first in
+      let digit = facts.digit in
+      let inside = facts.inside in
+      let word = facts.word in
+      (omega arith, omega arith, omega arith)
+
+pub returns-then-word-words : goal.returns-then-word-words
+returns-then-word-words c =
+    let p = c.args in
+    ap (set p.words.now (p.spot.first + (p.spot.place - 2) / 6)) c.digit_more.ensures
+    ∙ one_word _ p.spot.taken p.byte p.words.now (omega arith) (its p.spot c.requires (omega arith) (omega arith))
+
+pub returns-else-word-words : goal.returns-else-word-words
+returns-else-word-words c =
+    let p = c.args in
+    no_word p.spot.taken p.byte p.words.now
+    (λ w below facts. let is_word = (only p.spot c.requires w facts).2 in omega arith)
+
+pub returns-else-spot-lt20 : goal.returns-else-spot-lt20
+returns-else-spot-lt20 c =
+    let p = c.args in
+    no_word p.spot.taken p.byte p.words.now
+    (λ w below facts. let inside = (only p.spot c.requires w facts).1 in omega arith)
+
+pub returns-else-spot-ge2 : goal.returns-else-spot-ge2
+returns-else-spot-ge2 c =
+    let p = c.args in
+    no_word p.spot.taken p.byte p.words.now
+    (λ w below facts. let digit = (only p.spot c.requires w facts).0 in omega arith)
