@@ -8,7 +8,7 @@ use Rattle.laws.proofs.Bits.{bit-set, every_past}
 use Rattle.analysis.proofs.accepted.Goals as goal
 
 pub returns-then-rows-gt64 : goal.returns-then-rows-gt64
-returns-then-rows-gt64 c = sym (every_past c.args.marks 64 c.args.rows c.well-formed.0.1 (omega arith))
+returns-then-rows-gt64 c = sym (every_past c.args.marks 64 c.args.rows c.well_formed.0.1 (omega arith))
 
 pub returns : goal.returns
 returns c = ap (λ (x : ℕ). eqb x 1) c.all_marked.ensures ∙ bit-set _

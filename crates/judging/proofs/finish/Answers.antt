@@ -16,16 +16,16 @@ use Rattle.judging.proofs.finish.Goals.{Else-reached-announced_length}
 pub returns-then-reached-ne0 : goal.returns-then-reached-ne0
 returns-then-reached-ne0 c =
     let p = c.args in
-    end_refused p.reached p.read.now p.words.now (refused 1 p.reached.taken) c.refuse.result c.refuse.ensures
-    (end_wrong p.reached p.read.now (length p.words.now) _ (byte_wrong p.reached c.if-reached-ne0.true)) (λ zero. omega arith)
+    let both = end_refused p.reached p.read.now p.words.now (refused 1 p.reached.taken) c.refuse.result c.refuse.ensures
+    (end_wrong p.reached p.read.now (length p.words.now) _ (byte_wrong p.reached c.if-reached-ne0.true)) (λ zero. omega arith) in record { value = both.0; words_left = both.1 }
 
 pub returns-then-reached-announced_length : goal.returns-then-reached-announced_length
 returns-then-reached-announced_length c =
     let p = c.args in
-    end_refused p.reached p.read.now p.words.now (refused 1 p.reached.taken) c.refuse-then-reached-announced_length.result c.refuse-then-reached-announced_length.ensures
+    let both = end_refused p.reached p.read.now p.words.now (refused 1 p.reached.taken) c.refuse-then-reached-announced_length.result c.refuse-then-reached-announced_length.ensures
     (end_wrong p.reached p.read.now (length p.words.now) _
     (length_wrong p.reached c.if-reached-ne0.false (λ whole. c.if-reached-announced_length.true (whole ∙ sym c.announced_length.ensures))))
-    (λ zero. omega arith)
+    (λ zero. omega arith) in record { value = both.0; words_left = both.1 }
 
 -- Behind both checks no offset is wrong.
 right : (c : Else-reached-announced_length) → wrong_reached c.args.reached ≡ none
@@ -36,8 +36,8 @@ pub returns-then-rows-gt64 : goal.returns-then-rows-gt64
 unfolding announced
 returns-then-rows-gt64 c =
     let p = c.args in
-    end_refused p.reached p.read.now p.words.now (refused 3 0) c.refuse-then-rows-gt64.result c.refuse-then-rows-gt64.ensures
-    (end_many p.reached p.read.now (length p.words.now) (right (goal.at.returns-then-rows-gt64 c).Else-reached-announced_length) c.if-rows-gt64.true) (λ zero. omega arith)
+    let both = end_refused p.reached p.read.now p.words.now (refused 3 0) c.refuse-then-rows-gt64.result c.refuse-then-rows-gt64.ensures
+    (end_many p.reached p.read.now (length p.words.now) (right (goal.at.returns-then-rows-gt64 c).Else-reached-announced_length) c.if-rows-gt64.true) (λ zero. omega arith) in record { value = both.0; words_left = both.1 }
 
 pub slice_bounds-judge-end : goal.slice_bounds-judge-end
 slice_bounds-judge-end c =
@@ -49,4 +49,4 @@ unfolding announced
 returns c =
     let j = c.judge in
     let p = c.args in
-    end_answered p.reached p.read.now p.words.now j.new.1.1.1.0 j.result (omega (arith, c.requires)) (right (goal.at.returns c).Else-reached-announced_length) j.ensures
+    let both = end_answered p.reached p.read.now p.words.now j.new.1.1.1.0 j.result (omega (arith, c.requires)) (right (goal.at.returns c).Else-reached-announced_length) j.ensures in record { value = both.0; words_left = both.1 }

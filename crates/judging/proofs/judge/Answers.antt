@@ -21,8 +21,8 @@ found c =
 pub returns-then-found-ne0 : goal.returns-then-found-ne0
 returns-then-found-ne0 c =
     let p = c.args in
-    finding_refused c.words_refusal-found.result _ p.processors p.rows p.read.now p.words.now c.refuse.result c.refuse.ensures
-    (found (goal.at.returns-then-found-ne0 c).After-words_refusal-found) c.if-found-ne0.true
+    let both = finding_refused c.words_refusal-found.result _ p.processors p.rows p.read.now p.words.now c.refuse.result c.refuse.ensures
+    (found (goal.at.returns-then-found-ne0 c).After-words_refusal-found) c.if-found-ne0.true in record { value = both.0; words_left = both.1 }
 
 pub copy_front-requires : goal.copy_front-requires
 copy_front-requires c =

@@ -17,12 +17,12 @@ returns-in-At c =
     let place = c.in-At.place in
     let wrong : first_wrong c.args.bytes.now ≡ some place =
     found_some _ place (sym c.first_wrong.ensures ∙ c.in-At.is) in
-    reading_refused (refused 1 place) _ c.args.bytes.now c.args.words.now c.refuse.result c.refuse.ensures
-    (sym (form_wrong c.args.bytes.now (length c.args.words.now) place wrong)) (λ none-holds. omega arith)
+    let both = reading_refused (refused 1 place) _ c.args.bytes.now c.args.words.now c.refuse.result c.refuse.ensures
+    (sym (form_wrong c.args.bytes.now (length c.args.words.now) place wrong)) (λ none-holds. omega arith) in record { value = both.0; words_left = both.1 }
 
 pub returns-in-Nowhere : goal.returns-in-Nowhere
 unfolding read_sheet words_after
 returns-in-Nowhere c =
     let right : first_wrong c.args.bytes.now ≡ none =
     found_none _ (sym c.first_wrong.ensures ∙ c.in-Nowhere.is) in
-    rw (form_right c.args.bytes.now (length c.args.words.now) right) c.read_formed.ensures
+    let both = rw (form_right c.args.bytes.now (length c.args.words.now) right) c.read_formed.ensures in record { value = both.0; words_left = both.1 }

@@ -26,7 +26,7 @@ pub sheet_length-length-requires : goal.sheet_length-length-requires
 unfolding sheet_length head line sheet_of triples
 sheet_length-length-requires c =
     let rows : c.row_count-rows.result ≡ length c.args.words.now / 3 = c.row_count-rows.ensures in
-    omega (arith, c.well-formed.0.1)
+    omega (arith, c.well_formed.0.1)
 
 -- The sheet's length, and what was found: the writer's refusal.
 size : (c : After-words_refusal-found) → c.sheet_length-length.result ≡ sheet_length (sheet_of c.args.words.now).rows

@@ -14,7 +14,7 @@ use Rattle.analysis.proofs.rounds.refine_rounds.Goals.{After-row_count-end}
 pub returns-then-shape-ne0 : goal.returns-then-shape-ne0
 returns-then-shape-ne0 c =
     let shape = c.take_apart-shape.ensures.shape in
-    refined_by_shape _ _ _ _ shape c.if-shape-ne0.true rounds _ _
+    let both = refined_by_shape _ _ _ _ shape c.if-shape-ne0.true rounds _ _ in record { answered = both.0; written = both.1 }
 
 -- Past the check each column has a word for each row.
 there : (c : After-row_count-end) → let columns = c.take_apart-shape.new in

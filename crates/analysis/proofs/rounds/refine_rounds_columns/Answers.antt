@@ -15,7 +15,7 @@ use Rattle.analysis.proofs.rounds.refine_rounds_columns.Goals as goal
 use Rattle.analysis.proofs.rounds.refine_rounds_columns.Goals.{Else-number-ne0}
 
 pub returns-then-number-ne0 : goal.returns-then-number-ne0
-returns-then-number-ne0 c = refine_refused rounds _ _ _ _ _ _ c.refine_refusal-refusal.ensures c.if-number-ne0.true
+returns-then-number-ne0 c = let both = refine_refused rounds _ _ _ _ _ _ c.refine_refusal-refusal.ensures c.if-number-ne0.true in record { answered = both.0; written = both.1 }
 
 -- Past the test the refusal's number is 0.
 passed : (c : Else-number-ne0) → (refine_refusal_in (in_columns c.args.costs.now c.args.deadlines.now c.args.periods.now) c.args.processors c.args.method (length c.args.bounds.now)).number ≡ 0
@@ -48,5 +48,5 @@ run_rounds-marks-requires c =
 
 pub returns : goal.returns
 returns c =
-    refine_answered rounds _ _ _ _ _ (passed (goal.at.returns c).Else-number-ne0) _ _ _ c.run_rounds-marks.ensures.seen (c.run_rounds-marks.ensures.settled ∙ handed_whole _ _ _ _)
-    (ap length c.run_rounds-marks.ensures.settled ∙ rounds-length _ _ _ ∙ sym (counted (goal.at.returns c).Else-number-ne0).costs_each)
+    let both = refine_answered rounds _ _ _ _ _ (passed (goal.at.returns c).Else-number-ne0) _ _ _ c.run_rounds-marks.ensures.seen (c.run_rounds-marks.ensures.settled ∙ handed_whole _ _ _ _)
+    (ap length c.run_rounds-marks.ensures.settled ∙ rounds-length _ _ _ ∙ sym (counted (goal.at.returns c).Else-number-ne0).costs_each) in record { answered = both.0; written = both.1 }

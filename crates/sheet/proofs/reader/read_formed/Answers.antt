@@ -19,8 +19,8 @@ many c =
 
 pub returns-then-line-gt64 : goal.returns-then-line-gt64
 returns-then-line-gt64 c =
-    reading_refused (refused 3 0) _ c.args.bytes.now c.args.words.now c.refuse.result c.refuse.ensures (many (goal.at.returns-then-line-gt64 c).After-refuse)
-    (λ none-holds. omega arith)
+    let both = reading_refused (refused 3 0) _ c.args.bytes.now c.args.words.now c.refuse.result c.refuse.ensures (many (goal.at.returns-then-line-gt64 c).After-refuse)
+    (λ none-holds. omega arith) in record { value = both.0; words_left = both.1 }
 
 -- The array has space for the words of 64 rows.
 space : (n : ℕ) → n ≤ 192 → length (take n (replicate {A = ℕ} 192 0)) ≡ n

@@ -28,8 +28,8 @@ bounds-out-6 c = end_inside (begun (goal.at.bounds-out-6 c).After-slice_known-4-
 
 pub shape_of-out : goal.shape_of-out
 unfolding head
-shape_of-out c = ended-length 0x0_a (begun (goal.at.shape_of-out c).After-slice_known-4-1) c.requires
+shape_of-out c = ended-length 0x0A (begun (goal.at.shape_of-out c).After-slice_known-4-1) c.requires
 
 pub returns : goal.returns
 unfolding first_line head
-returns c = line-ended 0x0_a (begun (goal.at.returns c).After-slice_known-4-1) c.requires
+returns c = line-ended 0x0A (begun (goal.at.returns c).After-slice_known-4-1) c.requires

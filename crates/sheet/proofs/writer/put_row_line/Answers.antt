@@ -30,8 +30,8 @@ bounds-out-20 c = end_inside (begun (goal.at.bounds-out-20 c).After-slice_known-
 
 pub shape_of-out : goal.shape_of-out
 unfolding line
-shape_of-out c = ended-length 0x0_a (begun (goal.at.shape_of-out c).After-slice_known-5-1) c.requires
+shape_of-out c = ended-length 0x0A (begun (goal.at.shape_of-out c).After-slice_known-5-1) c.requires
 
 pub returns : goal.returns
 unfolding row_line line
-returns c = line-ended 0x0_a (begun (goal.at.returns c).After-slice_known-5-1) c.requires
+returns c = line-ended 0x0A (begun (goal.at.returns c).After-slice_known-5-1) c.requires
