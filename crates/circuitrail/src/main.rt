@@ -1,6 +1,8 @@
 // The program: the task sheet on standard input, its answer on standard output. Its run here is case S of the scope document.
 #![tactic(auto)]
 
-fn main() {
-    terminal::answer_input();
+use std::io;
+
+fn main(rt: HostRuntime) -> io::Result<()> {
+    terminal::answer_input(&rt)
 }

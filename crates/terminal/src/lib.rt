@@ -1,12 +1,13 @@
 // What the program does: the sheet on standard input is read, its answer is written to standard output, and nothing else is decided.
 #![tactic(auto)]
 
-ghost use Rattle.std.specs.Prelude.{◌≡◌, List, ◌++◌, ℕ, ◌≤◌, ◌<◌, length, take, drop};
+ghost use Rattle.std.specs.Prelude.{◌≡◌, List, ◌++◌, ℕ, ◌≤◌, ◌<◌, IfOk, IfSome, length, take, drop};
 ghost use Rattle.grammar.specs.Grammar.{sheet_length};
 ghost use Rattle.report.specs.Result.{answer_text};
 
-use libc::{STDIN_FILENO, STDOUT_FILENO};
 use result::answer_sheet;
+use std::io;
+use std::io::Read;
 
 // As many bytes as are read at most: the longest sheet has fewer, and whatever is longer is refused by them alone.
 const MOST: usize = 8192;
@@ -39,11 +40,29 @@ fn answer_read(sheet: &[u8], count: usize, out: &mut [u8; LONGEST]) -> usize
     put_answer(&sheet[..count], out)
 }
 
-// Reads the sheet on standard input, to its end or as far as it can matter, and writes exactly its answer to standard output.
-pub fn answer_input() {
+// Reads an input into a space, to the input's end or until the space is full, and gives how many bytes that are. One read may give fewer bytes
+// than are left, so there is another until one gives none. A read that fails ends this with its error.
+fn read_full<R: Read>(input: &mut R, space: &mut [u8]) -> io::Result<usize>
+    ensures fits { IfOk result (λ count. count ≤ length space.new) }
+    ensures begins { IfOk result (λ count. IfSome (R.remaining input.old) (λ bytes. take (length space.new) bytes ≡ take count space.new)) }
+{
+    let mut count = 0;
+    while count < space.len() {
+        let more = input.read(&mut space[count..])?;
+        if more == 0 {
+            return Ok(count);
+        }
+        count += more;
+    }
+    Ok(count)
+}
+
+// Reads the sheet on standard input, to its end or as far as it can matter, and writes exactly its answer to standard output. A read that fails
+// ends this with its error before anything is written, and a write that fails with its own.
+pub fn answer_input(rt: &(impl Input + Print)) -> io::Result<()> {
     let mut sheet = input_room();
-    let count = io::read_full(STDIN_FILENO, &mut sheet);
+    let count = read_full(&mut rt.reader(), &mut sheet)?;
     let mut out = [0u8; LONGEST];
     let length = answer_read(&sheet, count, &mut out);
-    io::write_all(STDOUT_FILENO, &out[..length]);
+    rt.write_all(&out[..length])
 }
