@@ -9,27 +9,29 @@ mod say;
 mod sizes;
 mod twins;
 
+use std::io;
+
 // The methods by their numbers.
 const BCL: u32 = 0;
 
 const RTA: u32 = 1;
 
-fn main() {
-    case_s::round_by_round();
-    case_s::by_rounds();
-    case_s::at_once();
-    case_s::last_row();
-    twins::on_one_processor();
-    twins::on_two_processors();
-    twins::exactly();
-    exact::fitting();
-    exact::clean_horizon();
-    exact::one_row();
-    exact::common_multiple();
-    exact::longest_horizon();
-    densities::case_s();
-    densities::unsure();
-    densities::equal();
-    sizes::row_counts();
-    sizes::periods();
+fn main(rt: HostRuntime) -> io::Result<()> {
+    case_s::round_by_round(&rt)?;
+    case_s::by_rounds(&rt)?;
+    case_s::at_once(&rt)?;
+    case_s::last_row(&rt)?;
+    twins::on_one_processor(&rt)?;
+    twins::on_two_processors(&rt)?;
+    twins::exactly(&rt)?;
+    exact::fitting(&rt)?;
+    exact::clean_horizon(&rt)?;
+    exact::one_row(&rt)?;
+    exact::common_multiple(&rt)?;
+    exact::longest_horizon(&rt)?;
+    densities::case_s(&rt)?;
+    densities::unsure(&rt)?;
+    densities::equal(&rt)?;
+    sizes::row_counts(&rt)?;
+    sizes::periods(&rt)
 }

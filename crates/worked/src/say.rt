@@ -1,111 +1,106 @@
 // Writing what an entry answered, in words and decimal numbers.
 use grammar::Written;
-use libc::STDOUT_FILENO;
 use quick_look::{DensityAnswer, Reply};
 use refinement::{OneRow, Refined};
 use rows::Found;
+use std::io;
 use verdict::{Answer, Outcome};
 
 // Writes a text as it stands.
-pub(crate) fn text(bytes: &[u8]) {
-    io::write_all(STDOUT_FILENO, bytes);
+pub(crate) fn text(rt: &impl Print, bytes: &[u8]) -> io::Result<()> {
+    rt.write_all(bytes)
 }
 
 // Writes a number in decimal.
-pub(crate) fn number(value: u64) {
-    io::print_decimal(STDOUT_FILENO, value);
+pub(crate) fn number(rt: &impl Print, value: u64) -> io::Result<()> {
+    rt.print(value)
 }
 
 // Ends the line.
-pub(crate) fn end() {
-    text(b"\n");
+pub(crate) fn end(rt: &impl Print) -> io::Result<()> {
+    text(rt, b"\n")
 }
 
 // Writes why an entry refused.
-fn refused(by: u32, place: u32) {
-    text(b"refused ");
-    number(by as u64);
-    text(b" at ");
-    number(place as u64);
+fn refused(rt: &impl Print, by: u32, place: u32) -> io::Result<()> {
+    text(rt, b"refused ")?;
+    number(rt, by as u64)?;
+    text(rt, b" at ")?;
+    number(rt, place as u64)
 }
 
 // Writes a bound, or that there is none.
-fn found(answer: Found) {
+fn found(rt: &impl Print, answer: Found) -> io::Result<()> {
     match answer {
-        Found::At(bound) => number(bound as u64),
-        Found::Nowhere => text(b"none"),
-    };
+        Found::At(bound) => number(rt, bound as u64),
+        Found::Nowhere => text(rt, b"none"),
+    }
 }
 
 // Writes one row's answer.
-pub(crate) fn one_row(asked: OneRow) {
+pub(crate) fn one_row(rt: &impl Print, asked: OneRow) -> io::Result<()> {
     if asked.refusal != 0 {
-        refused(asked.refusal, asked.place);
-        return;
+        return refused(rt, asked.refusal, asked.place);
     }
     let answer = asked.answer;
-    found(answer);
+    found(rt, answer)
 }
 
 // Writes the marks of a refinement.
-pub(crate) fn marks(refined: Refined) {
+pub(crate) fn marks(rt: &impl Print, refined: Refined) -> io::Result<()> {
     if refined.refusal != 0 {
-        refused(refined.refusal, refined.place);
-        return;
+        return refused(rt, refined.refusal, refined.place);
     }
-    text(b"marks ");
-    number(refined.marks);
+    text(rt, b"marks ")?;
+    number(rt, refined.marks)
 }
 
 // Writes three bounds.
-pub(crate) fn bounds(three: [u32; 3]) {
-    number(three[0] as u64);
-    text(b",");
-    number(three[1] as u64);
-    text(b",");
-    number(three[2] as u64);
+pub(crate) fn bounds(rt: &impl Print, three: [u32; 3]) -> io::Result<()> {
+    number(rt, three[0] as u64)?;
+    text(rt, b",")?;
+    number(rt, three[1] as u64)?;
+    text(rt, b",")?;
+    number(rt, three[2] as u64)
 }
 
 // Writes a length, behind what is said of it.
-fn length(what: &[u8], at: u32) {
-    text(what);
-    number(at as u64);
+fn length(rt: &impl Print, what: &[u8], at: u32) -> io::Result<()> {
+    text(rt, what)?;
+    number(rt, at as u64)
 }
 
 // Writes what the exact test said.
-pub(crate) fn outcome(answer: Answer) {
+pub(crate) fn outcome(rt: &impl Print, answer: Answer) -> io::Result<()> {
     if answer.refusal != 0 {
-        refused(answer.refusal, answer.place);
-        return;
+        return refused(rt, answer.refusal, answer.place);
     }
     let told = answer.outcome;
     match told {
-        Outcome::Miss(at) => length(b"miss ", at),
-        Outcome::Fits(at) => length(b"fits ", at),
-        Outcome::Undecided => text(b"undecided"),
+        Outcome::Miss(at) => length(rt, b"miss ", at),
+        Outcome::Fits(at) => length(rt, b"fits ", at),
+        Outcome::Undecided => text(rt, b"undecided"),
     }
 }
 
 // Writes what the density test said.
-pub(crate) fn density(answer: DensityAnswer) {
+pub(crate) fn density(rt: &impl Print, answer: DensityAnswer) -> io::Result<()> {
     if answer.refusal != 0 {
-        refused(answer.refusal, answer.place);
-        return;
+        return refused(rt, answer.refusal, answer.place);
     }
     let told = answer.answer;
     match told {
-        Reply::Yes => text(b"yes"),
-        Reply::No => text(b"no"),
-        Reply::Unsure => text(b"unsure"),
+        Reply::Yes => text(rt, b"yes"),
+        Reply::No => text(rt, b"no"),
+        Reply::Unsure => text(rt, b"unsure"),
     }
 }
 
 // Writes how many bytes were written.
-pub(crate) fn written(sheet: Written) {
+pub(crate) fn written(rt: &impl Print, sheet: Written) -> io::Result<()> {
     if sheet.refusal != 0 {
-        refused(sheet.refusal, sheet.place);
-        return;
+        return refused(rt, sheet.refusal, sheet.place);
     }
-    number(sheet.length as u64);
-    text(b" bytes");
+    number(rt, sheet.length as u64)?;
+    text(rt, b" bytes")
 }
