@@ -49,4 +49,4 @@ unfolding announced
 returns c =
     let j = c.judge in
     let p = c.args in
-    let both = end_answered p.reached p.read.now p.words.now j.new.1.1.1.0 j.result (omega (arith, c.requires)) (right (goal.at.returns c).Else-reached-announced_length) j.ensures in record { value = both.0; words_left = both.1 }
+    let both = end_answered p.reached p.read.now p.words.now j.new.words j.result (omega (arith, c.requires)) (right (goal.at.returns c).Else-reached-announced_length) (j.ensures.value, j.ensures.words_left) in record { value = both.0; words_left = both.1 }

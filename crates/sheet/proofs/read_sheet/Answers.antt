@@ -25,4 +25,5 @@ unfolding read_sheet words_after
 returns-in-Nowhere c =
     let right : first_wrong c.args.bytes.now ≡ none =
     found_none _ (sym c.first_wrong.ensures ∙ c.in-Nowhere.is) in
-    let both = rw (form_right c.args.bytes.now (length c.args.words.now) right) c.read_formed.ensures in record { value = both.0; words_left = both.1 }
+    let same = form_right c.args.bytes.now (length c.args.words.now) right in
+    record { value = rw same c.read_formed.ensures.value; words_left = rw same c.read_formed.ensures.words_left }

@@ -67,7 +67,7 @@ slice_bounds-put_sheet-end c = rw (size (goal.at.slice_bounds-put_sheet-end c).A
 part : (c : Else-found-ne0)
     → length (take c.sheet_length-length.result c.args.out.now) ≡ c.sheet_length-length.result
 part c =
-    length-take-le c.sheet_length-length.result c.args.out.now (slice-relend-prefix-put-sheet c)
+    length-take-le c.sheet_length-length.result c.args.out.now (rw (size (goal.at.Else-found-ne0 c).After-words_refusal-found) (checked c).enough)
 
 pub slice_bounds-put_sheet-end-2 : goal.slice_bounds-put_sheet-end-2
 slice_bounds-put_sheet-end-2 c = sym (part (goal.at.slice_bounds-put_sheet-end-2 c).Else-found-ne0)

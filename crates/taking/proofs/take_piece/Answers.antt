@@ -7,7 +7,7 @@ use Rattle.pieces.proofs.LineOne.{first_wrong, first_all, first_then}
 use Rattle.taking.proofs.take_piece.Goals as goal
 
 pub returns-then-start-ne0 : goal.returns-then-start-ne0
-returns-then-start-ne0 c =
+returns-then-start-ne0 c answer =
     let p = c.args in
     stuck p.start p.words.now answer p.bytes.now c.if-start-ne0.true
 
@@ -26,4 +26,4 @@ pub returns : goal.returns
 returns c =
     let rows = c.take_rows in
     let first = c.take_first-reached in
-    first_then c.args.start c.args.bytes.now c.args.words.now first.result first.ensures rows.result rows.new.1.1.0 rows.ensures
+    first_then c.args.start c.args.bytes.now c.args.words.now first.result first.ensures rows.result rows.new.words rows.ensures

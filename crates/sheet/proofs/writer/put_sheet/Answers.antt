@@ -49,7 +49,8 @@ unfolding head
 slice_bounds-put_rows-count c = omega (arith, kept (goal.at.slice_bounds-put_rows-count c).After-put_first_line, room (goal.at.slice_bounds-put_rows-count c).Start)
 
 pub slice_bounds-put_rows-start : goal.slice_bounds-put_rows-start
-slice_bounds-put_rows-start c = sub-put-rows c
+unfolding head
+slice_bounds-put_rows-start c = omega (arith, kept (goal.at.slice_bounds-put_rows-start c).After-put_first_line, room (goal.at.slice_bounds-put_rows-start c).Start)
 
 pub put_rows-requires : goal.put_rows-requires
 unfolding sheet_length head
