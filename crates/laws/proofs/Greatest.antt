@@ -1,5 +1,5 @@
 -- Laws of the greatest and of the product over places, by induction on the number of places.
-use mathlib.Core.Path.{◌≡◌, refl, ◌∙◌, sym}
+use mathlib.Core.Path.{◌≡◌, ◌∙◌, sym}
 use mathlib.Core.Logic.{⊎_elim}
 use Prim.Native.Nat.{ℕ, zero, suc, ◌+◌, ◌*◌, ◌≤◌, ◌<◌, ◌∣◌, max}
 use native.Mathlib.Nat.{le_antisymm, le_refl, le_of_eq, le_step, le_of_suc-le-suc, lt-suc_self, eq-or-lt_of_le, mul-le-mul_right, zero-mul, one-le-mul, dvd-mul_left, dvd-mul_right_of_dvd}

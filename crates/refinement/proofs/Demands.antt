@@ -5,7 +5,7 @@ use mathlib.Core.List.{List, ◌++◌}
 use mathlib.Core.Option.{Option, none, some}
 use Prim.Native.Nat.{ℕ, ◌<◌, ◌≤◌}
 use native.Mathlib.Omega.{arith}
-use lib.ListN.{length, get_or, take, drop, get_or-append, take-append-drop}
+use lib.ListN.{get_or, take, drop, get_or-append, take-append-drop}
 use lib.Seq.{take_at, drop_at}
 use lib.Dec.{eqb}
 use Rattle.laws.specs.Bits.{bit, bit_at}

@@ -4,7 +4,7 @@ use mathlib.Core.Bool.{Bool, true, false}
 use mathlib.Core.List.{List, [], ◌∷◌, ◌++◌, append_assoc}
 use Prim.Native.Nat.{ℕ, ◌+◌, ◌*◌, ◌^◌, ◌≤◌, ◌<◌}
 use native.Mathlib.Omega.{arith}
-use lib.ListN.{length, get_or, length-append, get_or-append}
+use lib.ListN.{get_or, length-append, get_or-append}
 use lib.Seq.{get_or-append-add}
 use Rattle.laws.specs.Fill.{joined}
 use Rattle.laws.specs.Bits.{bit, bit_at, is_set, every}

@@ -1,5 +1,4 @@
 -- `accepted` is whether all marks are set; past the 64th row there is none, since the marks have 64 bits.
-use borrow.Author.Rules.{rules}
 use mathlib.Core.Path.{sym, ◌∙◌, ap}
 use Prim.Native.Nat.{ℕ}
 use native.Mathlib.Omega.{arith}

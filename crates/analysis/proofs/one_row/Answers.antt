@@ -1,6 +1,5 @@
 -- `one_row` is a thin layer: refused by 2 or 3, or answered as the same rows are in columns.
 use mathlib.Core.Path.{sym, ◌∙◌}
-use borrow.Author.Rules.{rules}
 use lib.Seq.{length-take-le}
 use Rattle.rows.specs.Inner.{Fronts}
 use Rattle.rows.proofs.Layouts.{fronts_there, taken_apart}

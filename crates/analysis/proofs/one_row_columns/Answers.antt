@@ -1,5 +1,4 @@
 -- `one_row_columns` answers by its refusal, or asks the row: number 0 gives every fact that asking needs.
-use borrow.Author.Rules.{rules}
 use mathlib.Core.Path.{◌≡◌, sym, ◌∙◌, ap}
 use Rattle.rows.specs.declared.Found.{Found}
 use Rattle.rows.specs.declared.Refusal.{Refusal}

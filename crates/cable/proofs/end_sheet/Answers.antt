@@ -1,5 +1,4 @@
 -- A second end finds the answer that was given; the first judges what was read, and keeps its answer.
-use borrow.Author.Rules.{rules}
 use Rattle.pieces.proofs.Entries.{ending_after, ending_on}
 use Rattle.cable.proofs.end_sheet.Goals as goal
 

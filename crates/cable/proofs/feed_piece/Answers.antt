@@ -1,5 +1,4 @@
 -- Behind the end a piece finds the answer that was given; before it the piece is taken.
-use borrow.Author.Rules.{rules}
 use Rattle.pieces.proofs.Entries.{feeding_after, feeding_on}
 use Rattle.cable.proofs.feed_piece.Goals as goal
 

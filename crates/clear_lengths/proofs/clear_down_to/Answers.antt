@@ -1,11 +1,7 @@
 -- `clear_lengths::clear_down_to` meets its contract. The loop's invariant: every length behind the one reached is clear, and the notes hold
 -- in it. The measure is the length.
-use borrow.Author.Rules.{rules}
 use mathlib.Core.Path.{sym, ◌∙◌}
-use Prim.Native.Nat.{◌≤◌}
 use native.Mathlib.Omega.{arith}
-use Rattle.model.specs.Sheet.{columns}
-use Rattle.verdict.specs.Inner.{Clear, NotesGiven}
 use Rattle.verdict.proofs.Backward.{step_back, notes_shorter}
 use Rattle.clear_lengths.proofs.clear_down_to.Goals as goal
 

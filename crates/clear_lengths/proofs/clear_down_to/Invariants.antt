@@ -1,11 +1,7 @@
 -- The loop of `clear_down_to`: what lasts from turn to turn, and what falls.
-use borrow.Author.Rules.{rules}
-use mathlib.Core.Path.{sym, ◌∙◌}
 use Prim.Native.Nat.{◌≤◌}
-use native.Mathlib.Omega.{arith}
 use Rattle.model.specs.Sheet.{columns}
 use Rattle.verdict.specs.Inner.{Clear, NotesGiven}
-use Rattle.verdict.proofs.Backward.{step_back, notes_shorter}
 use Rattle.clear_lengths.proofs.clear_down_to.Given as goal
 
 abbrev pub invariant-loop-length : goal.invariant-loop-length

@@ -1,9 +1,6 @@
 -- `clear_lengths::clear_up_to` meets its contract. The loop's invariant: all is clear up to the lower end of a gap within the range, and
 -- the next length to try lies before its upper end. The measure is the gap.
-use Prim.Native.Nat.{◌+◌, ◌-◌, ◌≤◌, ◌<◌}
 use native.Mathlib.Omega.{arith}
-use Rattle.model.specs.Sheet.{columns}
-use Rattle.verdict.specs.Inner.{Clear}
 use Rattle.verdict.proofs.Sound.{shorter_given}
 use Rattle.verdict.proofs.Backward.{clear_on}
 use Rattle.clear_lengths.proofs.clear_up_to.Goals as goal

@@ -1,10 +1,7 @@
 -- The loop of `clear_up_to`: what lasts from turn to turn, and what falls.
 use Prim.Native.Nat.{◌+◌, ◌-◌, ◌≤◌, ◌<◌}
-use native.Mathlib.Omega.{arith}
 use Rattle.model.specs.Sheet.{columns}
 use Rattle.verdict.specs.Inner.{Clear}
-use Rattle.verdict.proofs.Sound.{shorter_given}
-use Rattle.verdict.proofs.Backward.{clear_on}
 use Rattle.clear_lengths.proofs.clear_up_to.Given as goal
 
 abbrev pub invariant-loop-clear : goal.invariant-loop-clear

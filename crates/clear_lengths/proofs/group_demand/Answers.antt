@@ -1,5 +1,4 @@
 -- `clear_lengths::group_demand` meets its contract: what is noted is not too little, and what is noted anew is the group's demand.
-use borrow.Author.Rules.{rules}
 use mathlib.Core.Path.{sym}
 use native.Mathlib.Nat.{le_of_eq}
 use native.Mathlib.Omega.{arith}

@@ -4,7 +4,6 @@ use mathlib.Core.Path.{sym}
 use Prim.Native.Nat.{◌-◌}
 use native.Mathlib.Nat.{div-le_self}
 use native.Mathlib.Omega.{arith}
-use borrow.Author.Rules.{rules}
 use Rattle.verdict.proofs.Row.{jobs_before, jobs_once, jobs_from}
 use Rattle.clear_lengths.proofs.jobs_within.Goals as goal
 

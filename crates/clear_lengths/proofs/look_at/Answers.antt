@@ -1,5 +1,4 @@
 -- `clear_lengths::look_at` meets its contract: a row's demand is its jobs, each of its cost, and both numbers stay near the length.
-use borrow.Author.Rules.{rules}
 use native.Mathlib.Omega.{arith}
 use Rattle.model.specs.Sheet.{columns}
 use Rattle.model.specs.Demand.{demand_of}

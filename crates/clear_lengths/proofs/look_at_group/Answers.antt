@@ -1,13 +1,10 @@
 -- `clear_lengths::look_at_group` meets its contract. The loop's invariant: the demand is that of the rows passed, each at most 16,777,216.
-use borrow.Author.Rules.{rules}
-use mathlib.Core.Path.{◌≡◌, refl, ◌∙◌, ap}
-use Prim.Native.Nat.{◌+◌, ◌*◌, ◌-◌, ◌≤◌}
+use mathlib.Core.Path.{refl, ◌∙◌, ap}
+use Prim.Native.Nat.{◌≤◌}
 use native.Mathlib.Nat.{le_antisymm, le_trans}
 use native.Mathlib.Omega.{arith}
-use Rattle.model.specs.Sheet.{columns}
 use Rattle.laws.specs.Sum.{total}
 use Rattle.laws.proofs.Sum.{total_step}
-use Rattle.model.specs.Demand.{demand_of}
 use Rattle.model.proofs.Sheet.{few_rows}
 use Rattle.verdict.proofs.Looked.{look_demand}
 use Rattle.verdict.proofs.Sound.{group_row, row_demand_fits}

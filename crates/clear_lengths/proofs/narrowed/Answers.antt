@@ -1,6 +1,5 @@
 -- `clear_lengths::narrowed` meets its contract: backward steps that came down to the lower end clear all up to where they began, and where
 -- they stopped before is the new upper end.
-use borrow.Author.Rules.{rules}
 use native.Mathlib.Omega.{arith}
 use Rattle.verdict.proofs.Backward.{notes_first}
 use Rattle.clear_lengths.proofs.narrowed.Goals as goal

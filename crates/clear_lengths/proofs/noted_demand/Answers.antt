@@ -1,11 +1,8 @@
 -- `clear_lengths::noted_demand` meets its contract. The loop's invariant: the groups passed are summed up, and the notes hold.
-use borrow.Author.Rules.{rules}
-use Prim.Native.Nat.{◌-◌, ◌<◌}
+use Prim.Native.Nat.{◌<◌}
 use native.Mathlib.Omega.{arith}
-use Rattle.model.specs.Sheet.{columns}
 use Rattle.model.proofs.Sheet.{few_rows}
-use Rattle.verdict.specs.Inner.{NotesGiven}
-use Rattle.verdict.proofs.Backward.{Summed, summed_none, summed_more, summed_all}
+use Rattle.verdict.proofs.Backward.{summed_none, summed_more, summed_all}
 use Rattle.clear_lengths.proofs.noted_demand.Goals as goal
 use Rattle.clear_lengths.proofs.noted_demand.Goals.{In-loop-group}
 

@@ -1,11 +1,8 @@
 -- The loop of `noted_demand`: what lasts from turn to turn, and what falls.
-use borrow.Author.Rules.{rules}
-use Prim.Native.Nat.{◌-◌, ◌<◌}
-use native.Mathlib.Omega.{arith}
+use Prim.Native.Nat.{◌-◌}
 use Rattle.model.specs.Sheet.{columns}
-use Rattle.model.proofs.Sheet.{few_rows}
 use Rattle.verdict.specs.Inner.{NotesGiven}
-use Rattle.verdict.proofs.Backward.{Summed, summed_none, summed_more, summed_all}
+use Rattle.verdict.proofs.Backward.{Summed}
 use Rattle.clear_lengths.proofs.noted_demand.Given as goal
 
 abbrev pub invariant-loop-group : goal.invariant-loop-group

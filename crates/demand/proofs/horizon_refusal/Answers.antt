@@ -1,5 +1,4 @@
 -- `demand::horizon_refusal` meets its contract: 1 to 16,777,216 is the range allowed.
-use borrow.Author.Rules.{rules}
 use Rattle.model.specs.Sheet.{horizon_allowed}
 use Rattle.rows.specs.Checks.{range_refusal}
 use Rattle.verdict.specs.OneProcessor.{horizon_refusal}

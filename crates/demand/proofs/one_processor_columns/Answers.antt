@@ -1,12 +1,11 @@
 -- `demand::one_processor_columns` meets its contract: refused by the checks, or worked out on an allowed sheet, the busy length first.
 use mathlib.Core.Path.{◌≡◌, refl, sym, ◌∙◌, ap}
 use native.Mathlib.Omega.{arith}
-use borrow.Author.Rules.{rules}
 use lib.ListN.{length}
 use Rattle.model.specs.Sheet.{columns}
 use Rattle.model.proofs.Sheet.{few_rows}
 use Rattle.rows.specs.declared.Refusal.{Refusal}
-use Rattle.rows.specs.Layouts.{Lent, in_columns}
+use Rattle.rows.specs.Layouts.{in_columns}
 use Rattle.rows.proofs.Fold.{held_last}
 use Rattle.rows.proofs.Layouts.{columns_even}
 use Rattle.verdict.specs.declared.Outcome.{Outcome}

@@ -1,7 +1,6 @@
 -- `density` is a thin layer: refused by 2 or 3, or answered as the same rows are in columns.
 use mathlib.Core.Path.{sym, ◌∙◌, ap}
 use Prim.Native.Nat.{ℕ}
-use borrow.Author.Rules.{rules}
 use lib.Seq.{length-take-le}
 use Rattle.rows.specs.Inner.{Fronts}
 use Rattle.rows.proofs.Layouts.{fronts_there, taken_apart}

@@ -1,11 +1,10 @@
 -- `density::density_columns` meets its contract: refused by the checks, or answered on an allowed sheet.
 use mathlib.Core.Path.{◌≡◌, refl, sym, ◌∙◌, ap}
 use native.Mathlib.Omega.{arith}
-use borrow.Author.Rules.{rules}
 use Rattle.model.specs.Sheet.{columns}
 use Rattle.model.proofs.Sheet.{few_rows}
 use Rattle.rows.specs.declared.Refusal.{Refusal}
-use Rattle.rows.specs.Layouts.{Lent, in_columns}
+use Rattle.rows.specs.Layouts.{in_columns}
 use Rattle.rows.proofs.Fold.{held_last}
 use Rattle.rows.proofs.Layouts.{columns_even}
 use Rattle.quick_look.specs.declared.Reply.{Reply}

@@ -1,9 +1,8 @@
 -- `density::reply` meets its contract: each of its three returns has the meaning, in billionths, that fixes the answer.
-use borrow.Author.Rules.{rules}
 use mathlib.Core.Path.{◌≡◌, sym, ap}
 use Prim.Native.Nat.{◌/◌}
 use native.Mathlib.Nat.{le_trans, le_of_eq, lt_of_lt_of_le}
-use Rattle.model.specs.Sheet.{Sheet, columns}
+use Rattle.model.specs.Sheet.{columns}
 use Rattle.model.specs.Demand.{ceiling}
 use Rattle.model.specs.Density.{left_side, billion, rounded_up, rounded_down, holds, fails, unsure}
 use Rattle.model.proofs.Rounding.{floor_rounds, ceiling-rounds}

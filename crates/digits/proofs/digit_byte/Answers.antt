@@ -1,5 +1,4 @@
 -- The byte of a digit's value: the two ways through the test are the two ranges of the last digit.
-use borrow.Author.Rules.{rules}
 use mathlib.Core.Path.{sym}
 use Rattle.digits.proofs.Digit.{byte_decimal, byte_letter}
 use Rattle.digits.proofs.digit_byte.Goals as goal

@@ -1,6 +1,5 @@
 -- The value of a digit byte: each of the seven ways through the `match` is one of the byte's ranges, or one of the gaps before, between and
 -- behind them.
-use borrow.Author.Rules.{rules}
 use native.Mathlib.Omega.{arith}
 use Rattle.digits.proofs.Digit.{value_decimal, value_upper, value_lower, value_none}
 use Rattle.digits.proofs.digit_value.Goals as goal

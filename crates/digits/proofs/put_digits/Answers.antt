@@ -1,7 +1,6 @@
 -- Digits at an offset: the part that has room for them is filled and put back; where there is no room nothing is written.
 use mathlib.Core.Path.{sym}
 use native.Mathlib.Omega.{arith}
-use borrow.Author.Rules.{rules}
 use Rattle.digits.proofs.Number.{digits_without_room, part_filled}
 use Rattle.digits.proofs.put_digits.Goals as goal
 

@@ -1,10 +1,8 @@
 -- `copy_back` stands where copying stands before each row.
-use borrow.Author.Rules.{rules}
-use mathlib.Core.Path.{◌≡◌, ◌∙◌, refl}
-use mathlib.Core.Logic.{⊎_elim, inl, inr}
-use Prim.Native.Nat.{◌-◌, ◌≤◌}
-use lib.ListN.{length, get_or, length-set}
-use Rattle.refinement.proofs.Steps.{Copying, copy_start, copy_on, copy_end}
+use mathlib.Core.Path.{◌∙◌, refl}
+use mathlib.Core.Logic.{inl, inr}
+use lib.ListN.{get_or, length-set}
+use Rattle.refinement.proofs.Steps.{copy_start, copy_on, copy_end}
 use native.Mathlib.Omega.{arith}
 use Rattle.engines.proofs.copy_back.Goals as goal
 use Rattle.engines.proofs.copy_back.Goals.{then-bounds-row, else-bounds-row}

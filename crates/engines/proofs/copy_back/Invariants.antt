@@ -1,11 +1,8 @@
 -- The loop of `copy_back`: what lasts from turn to turn, and what falls.
-use borrow.Author.Rules.{rules}
-use mathlib.Core.Path.{◌≡◌, ◌∙◌, refl}
-use mathlib.Core.Logic.{⊎_elim, inl, inr}
+use mathlib.Core.Path.{◌≡◌}
 use Prim.Native.Nat.{◌-◌, ◌≤◌}
-use lib.ListN.{length, get_or, length-set}
-use Rattle.refinement.proofs.Steps.{Copying, copy_start, copy_on, copy_end}
-use native.Mathlib.Omega.{arith}
+use lib.ListN.{length}
+use Rattle.refinement.proofs.Steps.{Copying}
 use Rattle.engines.proofs.copy_back.Given as goal
 
 abbrev pub invariant-loop-row : goal.invariant-loop-row

@@ -1,5 +1,4 @@
 -- `run_at_once` starts from the deadlines, which are on the way to its end.
-use borrow.Author.Rules.{rules}
 use mathlib.Core.Path.{◌≡◌, refl, sym, ◌∙◌}
 use Prim.Native.Nat.{ℕ, ◌≤◌}
 use lib.ListN.{length, take, replicate}

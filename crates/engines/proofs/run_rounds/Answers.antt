@@ -1,5 +1,4 @@
 -- `run_rounds` starts from the deadlines, which are on the way to its end.
-use borrow.Author.Rules.{rules}
 use mathlib.Core.Path.{sym, ◌∙◌}
 use Prim.Native.Nat.{◌≤◌}
 use lib.ListN.{length, replicate}

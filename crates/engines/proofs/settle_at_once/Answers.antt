@@ -1,19 +1,14 @@
 -- `settle_at_once` keeps what bounds on the way hold; each sweep that moves lowers their sum, and one that does not has reached the end.
-use mathlib.Core.Path.{◌≡◌, sym, ◌∙◌}
-use borrow.Author.Tests.{not-true, not-false}
-use Prim.Native.Nat.{◌≤◌}
-use lib.ListN.{length}
+use mathlib.Core.Path.{sym, ◌∙◌}
 use native.Mathlib.Nat.{lt_of_le_of_lt}
 use native.Mathlib.Omega.{arith}
 use Rattle.model.specs.Sheet.{columns}
 use Rattle.model.proofs.Refine.{sweep_pass}
 use Rattle.model.proofs.Engines.{sweep_settled}
 use Rattle.refinement.specs.Refinement.{final_bounds, final_marks}
-use Rattle.refinement.specs.Inner.{Running, bounds_sum}
+use Rattle.refinement.specs.Inner.{Running}
 use Rattle.refinement.proofs.Steps.{ask_regular, pass_on, reached, sum_lower}
 use Rattle.refinement.proofs.Descent.{descended_running}
-use mathlib.Core.Path.{ap}
-use mathlib.Core.Bool.{not}
 use Rattle.engines.proofs.settle_at_once.Goals as goal
 use Rattle.engines.proofs.settle_at_once.Goals.{After-sweep_rows-outcome}
 

@@ -1,15 +1,11 @@
 -- `settle_rounds` keeps what bounds on the way hold; each round that moves lowers their sum, and one that does not has reached the end.
-use mathlib.Core.Path.{◌≡◌, sym, ◌∙◌}
-use borrow.Author.Tests.{not-true, not-false}
-use lib.ListN.{length}
+use mathlib.Core.Path.{sym, ◌∙◌}
 use Rattle.model.specs.Sheet.{columns}
 use Rattle.model.proofs.Refine.{round_pass}
 use Rattle.model.proofs.Engines.{round_settled}
 use Rattle.refinement.specs.Refinement.{final_bounds, final_marks}
-use Rattle.refinement.specs.Inner.{Running, bounds_sum}
+use Rattle.refinement.specs.Inner.{Running}
 use Rattle.refinement.proofs.Steps.{ask_regular, pass_on, reached}
-use mathlib.Core.Path.{ap}
-use mathlib.Core.Bool.{not}
 use Rattle.engines.proofs.settle_rounds.Goals as goal
 use Rattle.engines.proofs.settle_rounds.Goals.{After-round_rows-outcome}
 

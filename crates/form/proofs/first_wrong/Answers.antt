@@ -1,11 +1,9 @@
 -- The first wrong offset: the loop has passed no wrong one, so where it stops is the search's answer.
-use Prim.Native.Nat.{ℕ, ◌+◌, ◌-◌, ◌≤◌, ◌<◌}
-use mathlib.Core.Path.{◌≡◌, sym, ◌∙◌, ap}
-use mathlib.Core.Bool.{false}
+use mathlib.Core.Path.{sym, ◌∙◌, ap}
 use native.Mathlib.Omega.{arith}
 use borrow.Author.Count.{below_more}
 use Rattle.rows.specs.Words.{found_of}
-use Rattle.grammar.specs.Grammar.{sheet_length, rows_written, wrong_at}
+use Rattle.grammar.specs.Grammar.{sheet_length}
 use Rattle.grammar.proofs.Grammar.{announced_small, wrong_found, none_wrong}
 use Rattle.form.proofs.first_wrong.Goals as goal
 

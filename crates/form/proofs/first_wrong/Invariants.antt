@@ -1,12 +1,8 @@
 -- The loop of `first_wrong`: what lasts from turn to turn, and what falls.
 use Prim.Native.Nat.{ℕ, ◌+◌, ◌-◌, ◌≤◌, ◌<◌}
-use mathlib.Core.Path.{◌≡◌, sym, ◌∙◌, ap}
+use mathlib.Core.Path.{◌≡◌}
 use mathlib.Core.Bool.{false}
-use native.Mathlib.Omega.{arith}
-use borrow.Author.Count.{below_more}
-use Rattle.rows.specs.Words.{found_of}
 use Rattle.grammar.specs.Grammar.{sheet_length, rows_written, wrong_at}
-use Rattle.grammar.proofs.Grammar.{announced_small, wrong_found, none_wrong}
 use Rattle.form.proofs.first_wrong.Given as goal
 
 abbrev pub invariant-loop-offset : goal.invariant-loop-offset

@@ -5,7 +5,6 @@ use lib.Dec.{ltb}
 use native.Mathlib.Omega.{arith}
 use Rattle.grammar.specs.Grammar.{head, line, sheet_length, rows_written}
 use Rattle.grammar.proofs.Grammar.{sheet_head, sheet_row, sheet_past, wrong_byte, wrong_end}
-use borrow.Author.Rules.{rules}
 use Rattle.form.proofs.wrong_at.Goals as goal
 
 pub returns-then-bytes-offset : goal.returns-then-bytes-offset

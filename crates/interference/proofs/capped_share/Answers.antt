@@ -1,5 +1,4 @@
 -- `capped_share` is BCL's term: the sizes of both rows give what the share asks, and the window and the cap are the row's own.
-use borrow.Author.Rules.{rules}
 use mathlib.Core.Path.{◌∙◌, ap, ap₂}
 use Prim.Native.Nat.{min}
 use Rattle.model.proofs.Sheet.{row_sized}

@@ -1,15 +1,13 @@
 -- `fill_shares` stores each row's term behind those before it, until all are listed; then 0 where the row itself stands.
-use borrow.Author.Rules.{rules}
 use native.Mathlib.Omega.{arith}
 use mathlib.Core.Path.{◌≡◌, refl, ◌∙◌, sym, ap}
-use mathlib.Core.List.{List, ◌++◌}
-use Prim.Native.Nat.{ℕ, ◌-◌, ◌+◌, ◌≤◌}
-use lib.ListN.{length, drop, set, length-set}
+use mathlib.Core.List.{List}
+use Prim.Native.Nat.{ℕ}
+use lib.ListN.{set, length-set}
 use Rattle.model.specs.Sheet.{columns}
 use Rattle.model.proofs.Sheet.{row_sized}
 use Rattle.laws.specs.Fill.{listed}
 use Rattle.laws.proofs.Fill.{listed-none, listed_more, listed_all, listed-unless}
-use Rattle.model.specs.Interference.{bcl_term}
 use Rattle.refinement.specs.Inner.{shares}
 use Rattle.interference.proofs.fill_shares.Goals as goal
 

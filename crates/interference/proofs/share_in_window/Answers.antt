@@ -3,7 +3,6 @@
 use native.Mathlib.Omega.{arith}
 use Rattle.model.specs.Interference.{share}
 use Rattle.refinement.proofs.Limits.{periods_within}
-use borrow.Author.Rules.{rules}
 use Rattle.interference.proofs.share_in_window.Goals as goal
 
 pub overflow_mul-result : goal.overflow_mul-result

@@ -1,5 +1,4 @@
 -- `work_in_time` is the work of document 01 in a time: what is left of it after its whole periods is the remainder.
-use borrow.Author.Rules.{rules}
 use native.Mathlib.Nat.{mod-eq-sub-div-mul}
 use Rattle.model.specs.Interference.{carried}
 use Rattle.refinement.proofs.Limits.{periods_within}

@@ -1,10 +1,7 @@
 -- Words copied to the front of others, one after the other.
-use Prim.Native.Nat.{◌-◌, ◌≤◌}
 use mathlib.Core.Path.{◌≡◌, refl, ◌∙◌}
-use mathlib.Core.List.{◌++◌}
 use native.Mathlib.Omega.{arith}
-use lib.ListN.{length, get_or, drop, length-set}
-use Rattle.laws.specs.Fill.{listed}
+use lib.ListN.{length, get_or, length-set}
 use Rattle.laws.proofs.Fill.{listed-none, listed_more, listed_back}
 use Rattle.judging.proofs.copy_front.Goals as goal
 

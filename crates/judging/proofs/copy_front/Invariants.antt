@@ -1,11 +1,9 @@
 -- The loop of `copy_front`: what lasts from turn to turn, and what falls.
 use Prim.Native.Nat.{◌-◌, ◌≤◌}
-use mathlib.Core.Path.{◌≡◌, refl, ◌∙◌}
+use mathlib.Core.Path.{◌≡◌}
 use mathlib.Core.List.{◌++◌}
-use native.Mathlib.Omega.{arith}
-use lib.ListN.{length, get_or, drop, length-set}
+use lib.ListN.{length, get_or, drop}
 use Rattle.laws.specs.Fill.{listed}
-use Rattle.laws.proofs.Fill.{listed-none, listed_more, listed_back}
 use Rattle.judging.proofs.copy_front.Given as goal
 
 abbrev pub invariant-loop-copied : goal.invariant-loop-copied

@@ -1,6 +1,5 @@
 -- The rows are judged in the words that were read: a refusal leaves the lent words alone, and without one they are copied.
 use mathlib.Core.Path.{◌≡◌, ◌∙◌, ap}
-use borrow.Author.Rules.{rules}
 use lib.ListN.{length}
 use Rattle.laws.proofs.Fill.{front_put}
 use Rattle.rows.specs.Checks.{words_refusal}

@@ -1,7 +1,6 @@
 -- `far_from` stays, or goes to a number at which, as at the present one, the lines exclude. What it tries is halved each time.
 use native.Mathlib.Omega.{arith}
 use mathlib.Core.Path.{sym, ◌∙◌}
-use Prim.Native.Nat.{◌-◌, ◌≤◌}
 use borrow.Author.Tests.{not-false, leb-true}
 use Rattle.refinement.proofs.Chord.{chord_passes}
 use mathlib.Core.Path.{ap}

@@ -1,9 +1,5 @@
 -- The loop of `far_from`: what lasts from turn to turn, and what falls.
-use native.Mathlib.Omega.{arith}
-use mathlib.Core.Path.{sym, ◌∙◌}
 use Prim.Native.Nat.{◌-◌, ◌≤◌}
-use borrow.Author.Tests.{not-false, leb-true}
-use Rattle.refinement.proofs.Chord.{chord_passes}
 use Rattle.jumps.proofs.far_from.Given as goal
 
 abbrev pub invariant-loop-far : goal.invariant-loop-far

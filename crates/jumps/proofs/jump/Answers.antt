@@ -1,5 +1,4 @@
 -- `jump` stays within the most; where the check fails the next length is smaller, and where it holds it is the contract.
-use borrow.Author.Rules.{rules}
 use Prim.Native.Nat.{◌+◌, ◌-◌, ◌/◌, ◌≤◌, ◌<◌}
 use Rattle.refinement.proofs.Limits.{product_small}
 use Rattle.laws.proofs.Concave.{newton_falls}

@@ -1,9 +1,5 @@
 -- The loop of `jump`: what lasts from turn to turn, and what falls.
-use borrow.Author.Rules.{rules}
-use Prim.Native.Nat.{◌+◌, ◌-◌, ◌/◌, ◌≤◌, ◌<◌}
-use Rattle.refinement.proofs.Limits.{product_small}
-use Rattle.laws.proofs.Concave.{newton_falls}
-use native.Mathlib.Omega.{arith}
+use Prim.Native.Nat.{◌≤◌}
 use Rattle.jumps.proofs.jump.Given as goal
 
 abbrev pub invariant-loop-far : goal.invariant-loop-far

@@ -1,5 +1,4 @@
 -- `leap_far` hands on what `keep_pending` and `far_from` give, or what it was given.
-use borrow.Author.Rules.{rules}
 use native.Mathlib.Omega.{arith}
 use mathlib.Core.Path.{refl}
 use Rattle.jumps.proofs.leap_far.Goals as goal

@@ -1,5 +1,4 @@
 -- `line` is the lesser of slope times time and of share and cap, all in 64 bits: the slope is at most one whole, and the time two millions.
-use borrow.Author.Rules.{rules}
 use Prim.Native.Nat.{◌+◌, ◌≤◌}
 use native.Mathlib.Nat.{mul-le-mul}
 use native.Mathlib.Omega.{arith}

@@ -1,8 +1,7 @@
 -- `line_sum` is the sum over the rows passed; each line is within the cap, so 64 of them fit.
-use borrow.Author.Rules.{rules}
 use native.Mathlib.Omega.{arith}
 use mathlib.Core.Path.{◌≡◌, refl, ◌∙◌, ap}
-use Prim.Native.Nat.{◌*◌, ◌-◌, ◌≤◌}
+use Prim.Native.Nat.{◌*◌, ◌≤◌}
 use Rattle.laws.specs.Sum.{total}
 use Rattle.laws.proofs.Sum.{total_step}
 use Rattle.refinement.specs.Inner.Kept.{line_at}

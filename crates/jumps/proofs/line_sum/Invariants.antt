@@ -1,12 +1,8 @@
 -- The loop of `line_sum`: what lasts from turn to turn, and what falls.
-use borrow.Author.Rules.{rules}
-use native.Mathlib.Omega.{arith}
-use mathlib.Core.Path.{◌≡◌, refl, ◌∙◌, ap}
+use mathlib.Core.Path.{◌≡◌}
 use Prim.Native.Nat.{◌*◌, ◌-◌, ◌≤◌}
 use Rattle.laws.specs.Sum.{total}
-use Rattle.laws.proofs.Sum.{total_step}
 use Rattle.refinement.specs.Inner.Kept.{line_at}
-use Rattle.refinement.proofs.Chord.{line-within_cap}
 use Rattle.jumps.proofs.line_sum.Given as goal
 
 abbrev pub invariant-loop-next : goal.invariant-loop-next

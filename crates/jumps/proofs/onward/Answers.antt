@@ -1,5 +1,4 @@
 -- `onward` stays where the terms do not fill the processors' time; where they do, the jump passes no solution.
-use borrow.Author.Rules.{rules}
 use native.Mathlib.Omega.{arith}
 use Prim.Native.Nat.{◌+◌, ◌*◌, ◌-◌, ◌≤◌}
 use native.Mathlib.Nat.{mul-le-mul}

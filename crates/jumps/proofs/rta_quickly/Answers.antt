@@ -1,13 +1,12 @@
 -- `rta_quickly` climbs over stretches without a solution: it stands where a climb stands, and each exit is a law of the climb. What is left to
 -- the deadline falls.
-use borrow.Author.Rules.{rules}
 use native.Mathlib.Omega.{arith}
 use mathlib.Core.Path.{◌≡◌, ◌∙◌, sym, ap, refl}
 use mathlib.Core.Option.{Option}
 use mathlib.Core.List.{List}
 use Prim.Native.Nat.{ℕ, ◌+◌, ◌-◌, ◌≤◌, ◌<◌}
 use native.Mathlib.Nat.{le_antisymm}
-use lib.ListN.{length, get_or}
+use lib.ListN.{get_or}
 use Rattle.model.specs.Sheet.{columns}
 use Rattle.model.proofs.Sheet.{row_sized}
 use Rattle.laws.proofs.Climb.{Climbed, climbed_first}

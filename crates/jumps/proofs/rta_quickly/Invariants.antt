@@ -1,22 +1,11 @@
 -- The loop of `rta_quickly`: what lasts from turn to turn, and what falls.
-use borrow.Author.Rules.{rules}
-use native.Mathlib.Omega.{arith}
-use mathlib.Core.Path.{◌≡◌, ◌∙◌, sym, ap, refl}
-use mathlib.Core.Option.{Option}
-use mathlib.Core.List.{List}
-use Prim.Native.Nat.{ℕ, ◌+◌, ◌-◌, ◌≤◌, ◌<◌}
-use native.Mathlib.Nat.{le_antisymm}
-use lib.ListN.{length, get_or}
+use mathlib.Core.Path.{◌≡◌}
+use Prim.Native.Nat.{◌-◌, ◌≤◌, ◌<◌}
+use lib.ListN.{length}
 use Rattle.model.specs.Sheet.{columns}
-use Rattle.model.proofs.Sheet.{row_sized}
-use Rattle.laws.proofs.Climb.{Climbed, climbed_first}
+use Rattle.laws.proofs.Climb.{Climbed}
 use Rattle.model.specs.Interference.{rta_right}
-use Rattle.model.proofs.Interference.{rta_right_from_cost}
-use Rattle.model.proofs.Answer.{climb_found, climb-none}
-use Rattle.rows.specs.Words.{found_of, bound_or}
-use Rattle.refinement.specs.Inner.Kept.{Kept, Tried, kept_sum, Met}
-use Rattle.refinement.proofs.Kept.{met_kept}
-use Rattle.refinement.proofs.Exclusion.{right_stands, climb_on}
+use Rattle.refinement.specs.Inner.Kept.{Met}
 use Rattle.jumps.proofs.rta_quickly.Given as goal
 
 abbrev pub invariant-loop-rows : goal.invariant-loop-rows

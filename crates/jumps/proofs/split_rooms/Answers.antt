@@ -1,5 +1,4 @@
 -- `split_rooms` adds what each room lets through, and counts the rooms that let all through, which is no more than was added.
-use borrow.Author.Rules.{rules}
 use native.Mathlib.Omega.{arith}
 use mathlib.Core.Path.{◌≡◌, ◌∙◌, ap}
 use native.Mathlib.Nat.{zero-mul, add-mul}

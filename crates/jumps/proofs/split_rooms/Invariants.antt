@@ -1,12 +1,8 @@
 -- The loop of `split_rooms`: what lasts from turn to turn, and what falls.
-use borrow.Author.Rules.{rules}
-use native.Mathlib.Omega.{arith}
-use mathlib.Core.Path.{◌≡◌, ◌∙◌, ap}
-use native.Mathlib.Nat.{zero-mul, add-mul}
-use Prim.Native.Nat.{◌+◌, ◌*◌, ◌-◌, ◌≤◌, min}
+use mathlib.Core.Path.{◌≡◌}
+use Prim.Native.Nat.{◌*◌, ◌-◌, ◌≤◌, min}
 use lib.ListN.{get_or}
 use Rattle.laws.specs.Sum.{total}
-use Rattle.laws.proofs.Sum.{total_step}
 use Rattle.jumps.proofs.split_rooms.Given as goal
 
 abbrev pub invariant-loop-other : goal.invariant-loop-other

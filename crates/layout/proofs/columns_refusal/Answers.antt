@@ -1,11 +1,10 @@
 -- `columns_refusal` meets its contract: a check before the rows' sizes that holds decides, else the first row outside.
 use mathlib.Core.Path.{◌≡◌, sym, ◌∙◌, ap}
 use Prim.Native.Nat.{ℕ}
-use borrow.Author.Rules.{rules}
 use Rattle.laws.proofs.Choice.{is_refused, not-refused}
 use Rattle.rows.specs.Words.{first_outside}
 use Rattle.rows.specs.Checks.{first_of, rows_refusal, refused, laid_refusal}
-use Rattle.rows.specs.Layouts.{Lent, in_columns, shape_refusal}
+use Rattle.rows.specs.Layouts.{in_columns, shape_refusal}
 use Rattle.rows.proofs.Words.{found_some, found_none}
 use Rattle.rows.proofs.Fold.{first_of_zero}
 use Rattle.rows.proofs.Checks.{by_number, shape_passed}

@@ -1,14 +1,9 @@
 -- The loop of `fill_columns`: what lasts from turn to turn, and what falls.
-use borrow.Author.Rules.{rules}
-use mathlib.Core.Path.{◌≡◌, refl, ◌∙◌, ap}
+use mathlib.Core.Path.{◌≡◌}
 use mathlib.Core.List.{List, ◌++◌}
-use Prim.Native.Nat.{ℕ, ◌+◌, ◌-◌, ◌≤◌, ◌<◌}
-use native.Mathlib.Omega.{arith}
-use lib.ListN.{length, take, drop, set, length-set}
-use lib.Seq.{take_at}
+use Prim.Native.Nat.{ℕ, ◌-◌, ◌≤◌}
+use lib.ListN.{length, drop}
 use Rattle.laws.specs.Fill.{listed}
-use Rattle.laws.proofs.Fill.{listed-none, listed_more, listed-length}
-use Rattle.model.specs.Sheet.{triples}
 use Rattle.rows.specs.Words.{sheet_of}
 use Rattle.layout.proofs.fill_columns.Given as goal
 

@@ -1,10 +1,8 @@
 -- `first_outside_columns` passes no row that is outside; the measure is how many rows are left.
-use borrow.Author.Rules.{rules}
 use borrow.Author.Count.{below_more}
 use mathlib.Core.Path.{◌≡◌, sym, ◌∙◌, ap}
-use mathlib.Core.Bool.{false, not}
+use mathlib.Core.Bool.{not}
 use mathlib.Core.Option.{none, some}
-use Prim.Native.Nat.{ℕ, ◌-◌, ◌≤◌, ◌<◌}
 use native.Mathlib.Omega.{arith}
 use Rattle.laws.proofs.Search.{least-fixed}
 use Rattle.model.specs.Sheet.{columns, row_allowed_at}

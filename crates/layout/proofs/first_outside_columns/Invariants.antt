@@ -1,14 +1,9 @@
 -- The loop of `first_outside_columns`: what lasts from turn to turn, and what falls.
-use borrow.Author.Rules.{rules}
-use borrow.Author.Count.{below_more}
-use mathlib.Core.Path.{◌≡◌, sym, ◌∙◌, ap}
-use mathlib.Core.Bool.{false, not}
-use mathlib.Core.Option.{none, some}
+use mathlib.Core.Path.{◌≡◌}
+use mathlib.Core.Bool.{false}
 use Prim.Native.Nat.{ℕ, ◌-◌, ◌≤◌, ◌<◌}
-use native.Mathlib.Omega.{arith}
-use Rattle.laws.proofs.Search.{least-fixed}
-use Rattle.model.specs.Sheet.{columns, row_allowed_at}
-use Rattle.rows.specs.Words.{outside, first_outside, found_of}
+use Rattle.model.specs.Sheet.{columns}
+use Rattle.rows.specs.Words.{outside}
 use Rattle.layout.proofs.first_outside_columns.Given as goal
 
 abbrev pub invariant-loop-row : goal.invariant-loop-row

@@ -2,7 +2,6 @@
 use mathlib.Core.Path.{◌≡◌, sym, ◌∙◌}
 use Prim.Native.Nat.{◌≤◌}
 use native.Mathlib.Omega.{arith}
-use borrow.Author.Rules.{rules}
 use Rattle.rows.specs.Layouts.{in_triples, shape_refusal}
 use Rattle.rows.proofs.Checks.{words_laid, shape_passed}
 use Rattle.layout.proofs.take_apart.Goals as goal

@@ -1,6 +1,5 @@
 -- What two digits can say announces at most 5,362 bytes.
 use native.Mathlib.Omega.{arith}
-use borrow.Author.Rules.{rules}
 use Rattle.grammar.specs.Grammar.{sheet_length, head, line}
 use Rattle.pieces.specs.Feeding.{announced}
 use Rattle.line_one.proofs.announced_length.Goals as goal

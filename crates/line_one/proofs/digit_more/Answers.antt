@@ -1,6 +1,5 @@
 -- A digit behind a number: of the number so much is kept that 32 bits hold both.
 use native.Mathlib.Omega.{arith}
-use borrow.Author.Rules.{rules}
 use Rattle.pieces.specs.Feeding.{digit_more}
 use Rattle.line_one.proofs.digit_more.Goals as goal
 

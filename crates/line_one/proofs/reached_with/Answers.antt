@@ -1,8 +1,6 @@
 -- Line one with a byte more: each of its two numbers takes the byte by itself.
 use mathlib.Core.Path.{ap₂}
 use Prim.Native.Nat.{ℕ, ◌+◌}
-use native.Mathlib.Omega.{arith}
-use borrow.Author.Rules.{rules}
 use Rattle.pieces.specs.Feeding.{reached_with}
 use Rattle.line_one.proofs.reached_with.Goals as goal
 

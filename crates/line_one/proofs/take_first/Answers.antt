@@ -1,14 +1,8 @@
 -- Line one byte by byte: what the loop has passed was right, so where it stops the rest of the piece goes on.
-use Prim.Native.Nat.{◌-◌}
 use mathlib.Core.Path.{sym, ◌∙◌}
 use mathlib.Core.Logic.{inl, inr}
-use native.Mathlib.Omega.{arith}
-use borrow.Author.Tests.{not-true, not-false}
-use lib.ListN.{length}
 use Rattle.grammar.specs.Grammar.{head}
-use Rattle.pieces.proofs.LineOne.{Begun, begun_none, begun_done, begun_more, begun_wrong}
-use mathlib.Core.Path.{ap}
-use mathlib.Core.Bool.{not}
+use Rattle.pieces.proofs.LineOne.{begun_none, begun_done, begun_more, begun_wrong}
 use Rattle.line_one.proofs.take_first.Goals as goal
 
 pub loop-passed-init : goal.loop-passed-init

@@ -1,12 +1,7 @@
 -- The loop of `take_first`: what lasts from turn to turn, and what falls.
 use Prim.Native.Nat.{◌-◌}
-use mathlib.Core.Path.{sym, ◌∙◌}
-use mathlib.Core.Logic.{inl, inr}
-use native.Mathlib.Omega.{arith}
-use borrow.Author.Tests.{not-true, not-false}
 use lib.ListN.{length}
-use Rattle.grammar.specs.Grammar.{head}
-use Rattle.pieces.proofs.LineOne.{Begun, begun_none, begun_done, begun_more, begun_wrong}
+use Rattle.pieces.proofs.LineOne.{Begun}
 use Rattle.line_one.proofs.take_first.Given as goal
 
 abbrev pub invariant-loop-passed : goal.invariant-loop-passed

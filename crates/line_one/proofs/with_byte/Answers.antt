@@ -1,7 +1,6 @@
 -- A number of two digits after a byte: among them, before them or behind them.
 use mathlib.Core.Path.{sym, ◌∙◌}
 use native.Mathlib.Omega.{arith}
-use borrow.Author.Rules.{rules}
 use Rattle.pieces.proofs.Words.{byte_among, byte_before, byte_behind}
 use Rattle.line_one.proofs.with_byte.Goals as goal
 

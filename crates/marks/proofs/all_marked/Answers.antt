@@ -1,8 +1,5 @@
 -- `all_marked` passes every row or stops at one whose bit is not set.
-use borrow.Author.Rules.{rules}
 use mathlib.Core.Path.{◌≡◌, refl, sym, ◌∙◌, ap}
-use mathlib.Core.Bool.{true}
-use Prim.Native.Nat.{◌-◌, ◌≤◌}
 use borrow.Author.Tests.{eq-eqb, ne_eqb}
 use Rattle.laws.specs.Bits.{bit, is_set, every}
 use Rattle.laws.proofs.Bits.{every_more, every_fails}

@@ -1,16 +1,10 @@
 -- The loop of `fill_rooms`: what lasts from turn to turn, and what falls.
-use borrow.Author.Rules.{rules}
-use native.Mathlib.Omega.{arith}
-use mathlib.Core.Path.{◌≡◌, refl, ◌∙◌, ap, ap₂}
+use mathlib.Core.Path.{◌≡◌}
 use mathlib.Core.List.{◌++◌}
-use Prim.Native.Nat.{ℕ, ◌+◌, ◌*◌, ◌-◌, ◌≤◌}
-use lib.ListN.{length, drop, length-set}
-use Rattle.laws.specs.Sum.{total}
+use Prim.Native.Nat.{◌+◌, ◌*◌, ◌-◌, ◌≤◌}
+use lib.ListN.{length, drop}
 use Rattle.laws.specs.Fill.{listed}
-use Rattle.laws.proofs.Sum.{total_step}
-use Rattle.laws.proofs.Fill.{listed-none, listed_more}
-use Rattle.refinement.specs.Inner.Kept.{term_at, room_at, kept_sum}
-use Rattle.refinement.proofs.Exclusion.{term_within, top_small}
+use Rattle.refinement.specs.Inner.Kept.{room_at, kept_sum}
 use Rattle.pending.proofs.fill_rooms.Given as goal
 
 abbrev pub invariant-loop-next : goal.invariant-loop-next

@@ -1,12 +1,10 @@
 -- `keep_pending` passes row by row: one that adds its whole share is settled for good, any other moves to the front.
-use borrow.Author.Rules.{rules}
 use native.Mathlib.Omega.{arith}
 use mathlib.Core.Path.{◌≡◌, refl, ◌∙◌, sym}
-use mathlib.Core.Logic.{⊎_elim}
 use Prim.Native.Nat.{ℕ, ◌+◌, ◌-◌, ◌≤◌, ◌<◌}
 use Rattle.laws.specs.Sum.{total}
 use Rattle.laws.proofs.Sum.{total_step}
-use Rattle.refinement.specs.Inner.Kept.{cost_at, period_at, ahead_at, share_at, rise_at, term_from, term_at, KeptRow, KeptOf, kept_sum}
+use Rattle.refinement.specs.Inner.Kept.{cost_at, period_at, ahead_at, share_at, rise_at, term_from, term_at, KeptRow, kept_sum}
 use Rattle.refinement.proofs.Kept.{Holds, put_other, holds_term, holds_kept, holds_through, holds_self, kept_more, kept_settled, sum_more, sum_settled, whole_share}
 use Rattle.pending.proofs.keep_pending.Goals as goal
 use Rattle.pending.proofs.keep_pending.Goals.{then-here-share, else-here-share}

@@ -1,13 +1,9 @@
 -- The loop of `keep_pending`: what lasts from turn to turn, and what falls.
-use borrow.Author.Rules.{rules}
-use native.Mathlib.Omega.{arith}
-use mathlib.Core.Path.{◌≡◌, refl, ◌∙◌, sym}
-use mathlib.Core.Logic.{⊎_elim}
+use mathlib.Core.Path.{◌≡◌}
 use Prim.Native.Nat.{ℕ, ◌+◌, ◌-◌, ◌≤◌, ◌<◌}
 use Rattle.laws.specs.Sum.{total}
-use Rattle.laws.proofs.Sum.{total_step}
-use Rattle.refinement.specs.Inner.Kept.{cost_at, period_at, ahead_at, share_at, rise_at, term_from, term_at, KeptRow, KeptOf, kept_sum}
-use Rattle.refinement.proofs.Kept.{Holds, put_other, holds_term, holds_kept, holds_through, holds_self, kept_more, kept_settled, sum_more, sum_settled, whole_share}
+use Rattle.refinement.specs.Inner.Kept.{cost_at, period_at, ahead_at, share_at, rise_at, term_at, KeptOf, kept_sum}
+use Rattle.refinement.proofs.Kept.{Holds}
 use Rattle.pending.proofs.keep_pending.Given as goal
 
 abbrev pub invariant-loop-next : goal.invariant-loop-next

@@ -1,19 +1,10 @@
 -- The loop of `meet`: what lasts from turn to turn, and what falls.
-use borrow.Author.Rules.{rules}
-use native.Mathlib.Omega.{arith}
-use mathlib.Core.Path.{◌≡◌, refl, ◌∙◌, sym}
-use mathlib.Core.Logic.{⊎_elim}
-use Prim.Native.Nat.{ℕ, ◌+◌, ◌-◌, ◌≤◌, ◌<◌}
-use lib.ListN.{get_or}
-use Rattle.model.proofs.Sheet.{row_sized, few_rows}
+use mathlib.Core.Path.{◌≡◌}
+use Prim.Native.Nat.{ℕ, ◌+◌, ◌-◌, ◌≤◌}
 use Rattle.laws.specs.Sum.{total}
-use Rattle.laws.proofs.Sum.{total_step}
 use Rattle.model.specs.Sheet.{columns}
 use Rattle.refinement.specs.Inner.{term_of, share_in}
-use Rattle.refinement.specs.Inner.Kept.{term_from, KeptNumbers, KeptOf, kept_sum}
-use Rattle.refinement.proofs.Limits.{share-within}
-use Rattle.refinement.proofs.Sizes.{sizes}
-use Rattle.refinement.proofs.Kept.{kept_more, kept_settled, sum_more, sum_settled, small_share, term_numbers}
+use Rattle.refinement.specs.Inner.Kept.{KeptOf, kept_sum}
 use Rattle.pending.proofs.meet.Given as goal
 
 abbrev pub invariant-loop-place : goal.invariant-loop-place

@@ -1,5 +1,4 @@
 -- `put_row` stores the five numbers where the definition does.
-use borrow.Author.Rules.{rules}
 use mathlib.Core.Path.{refl}
 use Prim.Native.Nat.{◌+◌}
 use lib.ListN.{set, length-set}

@@ -1,5 +1,4 @@
 -- `term_and_top` is the least of work, share and cap, and what comes for certain.
-use borrow.Author.Rules.{rules}
 use native.Mathlib.Omega.{arith}
 use mathlib.Core.Path.{◌∙◌, ap₂}
 use Prim.Native.Nat.{◌+◌, ◌*◌, ◌/◌, ◌≤◌, min}

@@ -1,5 +1,4 @@
 -- `descend` repeats what lowers bounds and keeps what they hold.
-use borrow.Author.Rules.{rules}
 use mathlib.Core.Path.{◌∙◌, sym}
 use Rattle.model.specs.Sheet.{columns}
 use Rattle.refinement.specs.Inner.Ray.{Descended}

@@ -1,10 +1,7 @@
 -- The loop of `descend`: what lasts from turn to turn, and what falls.
-use borrow.Author.Rules.{rules}
-use mathlib.Core.Path.{◌∙◌, sym}
 use Rattle.model.specs.Sheet.{columns}
 use Rattle.refinement.specs.Inner.Ray.{Descended}
 use Rattle.refinement.specs.Refinement.{ask_of}
-use Rattle.refinement.proofs.Descent.{descended_none, descended_more, descended_length, descended_running}
 use Rattle.ray.proofs.descend.Given as goal
 
 abbrev pub invariant-loop-tries : goal.invariant-loop-tries

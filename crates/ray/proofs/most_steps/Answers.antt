@@ -1,11 +1,8 @@
 -- `most_steps` is the least room of any row, so every row has as much.
-use borrow.Author.Rules.{rules}
 use native.Mathlib.Omega.{arith}
-use Prim.Native.Nat.{ℕ, ◌+◌, ◌*◌, ◌-◌, ◌≤◌, ◌<◌}
-use lib.ListN.{get_or}
+use Prim.Native.Nat.{ℕ, ◌+◌, ◌*◌, ◌≤◌}
 use borrow.Author.Count.{below_more}
 use native.Mathlib.Nat.{le_trans, add-le-add, mul-le-mul, le_refl}
-use Rattle.model.specs.Sheet.{columns}
 use Rattle.ray.proofs.most_steps.Goals as goal
 
 pub loop-row-init : goal.loop-row-init

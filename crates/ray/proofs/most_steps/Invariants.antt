@@ -1,10 +1,6 @@
 -- The loop of `most_steps`: what lasts from turn to turn, and what falls.
-use borrow.Author.Rules.{rules}
-use native.Mathlib.Omega.{arith}
 use Prim.Native.Nat.{ℕ, ◌+◌, ◌*◌, ◌-◌, ◌≤◌, ◌<◌}
 use lib.ListN.{get_or}
-use borrow.Author.Count.{below_more}
-use native.Mathlib.Nat.{le_trans, add-le-add, mul-le-mul, le_refl}
 use Rattle.model.specs.Sheet.{columns}
 use Rattle.ray.proofs.most_steps.Given as goal
 

@@ -1,10 +1,9 @@
 -- `note_drops` leaves drops that are at most bounds, which are at most a million.
-use borrow.Author.Rules.{rules}
 use native.Mathlib.Omega.{arith}
 use mathlib.Core.Path.{◌≡◌, ◌∙◌}
 use borrow.Author.Count.{below_more}
-use Prim.Native.Nat.{ℕ, ◌-◌, ◌≤◌, ◌<◌}
-use lib.ListN.{length, get_or, length-set}
+use Prim.Native.Nat.{◌<◌}
+use lib.ListN.{length-set}
 use lib.Seq.{get_or-set_same, get_or-set_other}
 use Rattle.model.specs.Sheet.{columns}
 use Rattle.model.proofs.Sheet.{row_sized}

@@ -1,13 +1,7 @@
 -- The loop of `note_drops`: what lasts from turn to turn, and what falls.
-use borrow.Author.Rules.{rules}
-use native.Mathlib.Omega.{arith}
-use mathlib.Core.Path.{◌≡◌, ◌∙◌}
-use borrow.Author.Count.{below_more}
+use mathlib.Core.Path.{◌≡◌}
 use Prim.Native.Nat.{ℕ, ◌-◌, ◌≤◌, ◌<◌}
-use lib.ListN.{length, get_or, length-set}
-use lib.Seq.{get_or-set_same, get_or-set_other}
-use Rattle.model.specs.Sheet.{columns}
-use Rattle.model.proofs.Sheet.{row_sized}
+use lib.ListN.{length, get_or}
 use Rattle.ray.proofs.note_drops.Given as goal
 
 abbrev pub invariant-loop-row : goal.invariant-loop-row

@@ -2,7 +2,6 @@
 use mathlib.Core.Path.{◌∙◌, sym}
 use native.Mathlib.Nat.{le_trans, le_of_eq}
 use Rattle.refinement.proofs.Descent.{lowered_small, lowered_down}
-use borrow.Author.Rules.{rules}
 use Rattle.ray.proofs.ray_once.Goals as goal
 
 pub step_down-requires : goal.step_down-requires

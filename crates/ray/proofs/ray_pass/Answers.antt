@@ -1,10 +1,8 @@
 -- `ray_pass` keeps to the ray: each row that makes its first step is allowed all the steps that are left.
-use borrow.Author.Rules.{rules}
 use native.Mathlib.Omega.{arith}
-use mathlib.Core.Logic.{⊎_elim}
 use native.Mathlib.Nat.{mul-le-mul, le_refl, le_trans}
 use lib.ListN.{length}
-use Prim.Native.Nat.{ℕ, ◌+◌, ◌*◌, ◌-◌, ◌≤◌, ◌<◌}
+use Prim.Native.Nat.{ℕ, ◌+◌, ◌*◌, ◌≤◌, ◌<◌}
 use mathlib.Core.Path.{◌≡◌, refl, ◌∙◌}
 use Rattle.model.specs.Sheet.{columns}
 use Rattle.model.proofs.Ray.{OnRay, ray_first}

@@ -1,16 +1,10 @@
 -- The loop of `ray_pass`: what lasts from turn to turn, and what falls.
-use borrow.Author.Rules.{rules}
-use native.Mathlib.Omega.{arith}
-use mathlib.Core.Logic.{⊎_elim}
-use native.Mathlib.Nat.{mul-le-mul, le_refl, le_trans}
 use lib.ListN.{length}
-use Prim.Native.Nat.{ℕ, ◌+◌, ◌*◌, ◌-◌, ◌≤◌, ◌<◌}
-use mathlib.Core.Path.{◌≡◌, refl, ◌∙◌}
+use Prim.Native.Nat.{◌-◌, ◌≤◌}
+use mathlib.Core.Path.{◌≡◌}
 use Rattle.model.specs.Sheet.{columns}
-use Rattle.model.proofs.Ray.{OnRay, ray_first}
+use Rattle.model.proofs.Ray.{OnRay}
 use Rattle.refinement.specs.Refinement.{ask_of}
-use Rattle.refinement.proofs.Steps.{ask_regular}
-use Rattle.refinement.proofs.Descent.{on_way, ray_lost, ray_done, ray_lowered, ray_stayed}
 use Rattle.ray.proofs.ray_pass.Given as goal
 
 abbrev pub invariant-loop-row : goal.invariant-loop-row

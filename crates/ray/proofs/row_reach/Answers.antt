@@ -9,7 +9,6 @@ use Rattle.model.specs.Sheet.{columns}
 use Rattle.refinement.specs.Inner.Ray.{Aimed}
 use Rattle.refinement.proofs.Limits.{product_small}
 use Rattle.refinement.proofs.Ways.{reaches}
-use borrow.Author.Rules.{rules}
 use Rattle.ray.proofs.row_reach.Goals as goal
 use Rattle.ray.proofs.row_reach.Goals.{Start}
 

@@ -3,7 +3,6 @@ use native.Mathlib.Omega.{arith}
 use Prim.Native.Nat.{◌-◌, ◌≤◌}
 use lib.ListN.{get_or}
 use native.Mathlib.Nat.{mul-zero, zero-add, div-mul-le_self}
-use borrow.Author.Rules.{rules}
 use Rattle.model.specs.Sheet.{columns}
 use Rattle.ray.proofs.row_room.Goals as goal
 use Rattle.ray.proofs.row_room.Goals.{Start}

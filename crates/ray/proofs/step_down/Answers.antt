@@ -1,11 +1,8 @@
 -- `step_down` puts each lower bound behind those before it, until all are there.
-use borrow.Author.Rules.{rules}
 use native.Mathlib.Omega.{arith}
 use mathlib.Core.Path.{◌≡◌, ◌∙◌, ap}
-use mathlib.Core.List.{◌++◌}
 use Prim.Native.Nat.{ℕ, ◌*◌, ◌-◌, ◌≤◌, ◌<◌}
-use lib.ListN.{length, get_or, drop, length-set}
-use Rattle.laws.specs.Fill.{listed}
+use lib.ListN.{get_or, length-set}
 use Rattle.laws.proofs.Fill.{listed-none, listed_more, listed_all, listed_next}
 use Rattle.model.specs.Inner.{along}
 use Rattle.ray.proofs.step_down.Goals as goal

@@ -1,13 +1,9 @@
 -- The loop of `step_down`: what lasts from turn to turn, and what falls.
-use borrow.Author.Rules.{rules}
-use native.Mathlib.Omega.{arith}
-use mathlib.Core.Path.{◌≡◌, ◌∙◌, ap}
+use mathlib.Core.Path.{◌≡◌}
 use mathlib.Core.List.{◌++◌}
-use Prim.Native.Nat.{ℕ, ◌*◌, ◌-◌, ◌≤◌, ◌<◌}
-use lib.ListN.{length, get_or, drop, length-set}
+use Prim.Native.Nat.{◌*◌, ◌-◌, ◌≤◌}
+use lib.ListN.{length, get_or, drop}
 use Rattle.laws.specs.Fill.{listed}
-use Rattle.laws.proofs.Fill.{listed-none, listed_more, listed_all, listed_next}
-use Rattle.model.specs.Inner.{along}
 use Rattle.ray.proofs.step_down.Given as goal
 
 abbrev pub invariant-loop-row : goal.invariant-loop-row

@@ -1,5 +1,4 @@
 -- `answer_in` prepares the shares and hands the row to the method that its number names.
-use borrow.Author.Rules.{rules}
 use Rattle.refinement.proofs.ByMethod.{by_bcl, by_rta}
 use Rattle.response.proofs.answer_in.Goals as goal
 

@@ -1,5 +1,4 @@
 -- `answer_row` lends the front of 64 words, which every allowed sheet fits.
-use borrow.Author.Rules.{rules}
 use mathlib.Core.Path.{sym}
 use lib.ListN.{replicate}
 use lib.Seq.{length-take-le}

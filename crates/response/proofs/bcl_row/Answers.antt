@@ -1,5 +1,4 @@
 -- `bcl_row` is BCL's answer: the prepared shares sum up to the formula's, and the test is the definition's own.
-use borrow.Author.Rules.{rules}
 use mathlib.Core.Path.{refl, sym, ap}
 use mathlib.Core.Option.{none, some}
 use native.Mathlib.Nat.{div-le_self}

@@ -1,5 +1,4 @@
 -- `right_side` is RTA's right side: the terms from the prepared shares sum up to it, within 65 millions.
-use borrow.Author.Rules.{rules}
 use mathlib.Core.Path.{refl}
 use Prim.Native.Nat.{◌+◌, ◌-◌, ◌≤◌}
 use lib.ListN.{get_or}

@@ -1,7 +1,5 @@
 -- `rta_row` climbs from the cost: it stands where a climb stands, and each exit is a law of the climb. What is left to the deadline falls.
-use borrow.Author.Rules.{rules}
 use mathlib.Core.Path.{◌∙◌, sym, ap}
-use Prim.Native.Nat.{◌-◌, ◌≤◌}
 use Rattle.model.specs.Sheet.{columns}
 use Rattle.model.proofs.Sheet.{row_sized}
 use Rattle.laws.proofs.Climb.{Climbed, climbed_first, climbed_more}

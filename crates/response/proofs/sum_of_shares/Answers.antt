@@ -1,7 +1,6 @@
 -- `sum_of_shares` is the sum over the places passed; 64 terms of at most a million fit.
-use borrow.Author.Rules.{rules}
 use mathlib.Core.Path.{◌≡◌, refl, ◌∙◌, ap}
-use Prim.Native.Nat.{◌*◌, ◌-◌, ◌≤◌}
+use Prim.Native.Nat.{◌≤◌}
 use lib.ListN.{get_or}
 use Rattle.laws.specs.Sum.{total}
 use Rattle.laws.proofs.Sum.{total_step}

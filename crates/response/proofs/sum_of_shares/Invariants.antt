@@ -1,11 +1,8 @@
 -- The loop of `sum_of_shares`: what lasts from turn to turn, and what falls.
-use borrow.Author.Rules.{rules}
-use mathlib.Core.Path.{◌≡◌, refl, ◌∙◌, ap}
+use mathlib.Core.Path.{◌≡◌}
 use Prim.Native.Nat.{◌*◌, ◌-◌, ◌≤◌}
 use lib.ListN.{get_or}
 use Rattle.laws.specs.Sum.{total}
-use Rattle.laws.proofs.Sum.{total_step}
-use native.Mathlib.Omega.{arith}
 use Rattle.response.proofs.sum_of_shares.Given as goal
 
 abbrev pub invariant-loop-other : goal.invariant-loop-other

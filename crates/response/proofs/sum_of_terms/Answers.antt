@@ -1,7 +1,6 @@
 -- `sum_of_terms` is the sum over the places passed; each term is within the cap, so 64 of them fit.
-use borrow.Author.Rules.{rules}
 use mathlib.Core.Path.{◌≡◌, refl, ◌∙◌, ap}
-use Prim.Native.Nat.{◌*◌, ◌-◌, ◌≤◌}
+use Prim.Native.Nat.{◌≤◌}
 use Rattle.model.specs.Sheet.{columns}
 use Rattle.model.proofs.Sheet.{few_rows}
 use Rattle.laws.specs.Sum.{total}

@@ -1,14 +1,9 @@
 -- The loop of `sum_of_terms`: what lasts from turn to turn, and what falls.
-use borrow.Author.Rules.{rules}
-use mathlib.Core.Path.{◌≡◌, refl, ◌∙◌, ap}
+use mathlib.Core.Path.{◌≡◌}
 use Prim.Native.Nat.{◌*◌, ◌-◌, ◌≤◌}
 use Rattle.model.specs.Sheet.{columns}
-use Rattle.model.proofs.Sheet.{few_rows}
 use Rattle.laws.specs.Sum.{total}
-use Rattle.laws.proofs.Sum.{total_step}
 use Rattle.refinement.specs.Inner.{listed_share, term_of}
-use Rattle.refinement.proofs.Limits.{term_within_cap}
-use native.Mathlib.Omega.{arith}
 use Rattle.response.proofs.sum_of_terms.Given as goal
 
 abbrev pub invariant-loop-other : goal.invariant-loop-other

@@ -1,5 +1,4 @@
 -- `term` is the least of work, share and cap: a row that is ready has work of at least 1, so a least of 0 or 1 needs no more looking.
-use borrow.Author.Rules.{rules}
 use mathlib.Core.Path.{◌∙◌, ap₂}
 use Prim.Native.Nat.{min}
 use lib.ListN.{get_or}

@@ -1,5 +1,4 @@
 -- `answer_sheet` reads into 192 words, which every allowed sheet fits, and writes the line or the result that the answer is.
-use borrow.Author.Rules.{rules}
 use mathlib.Core.Path.{refl, sym, ◌∙◌, ap}
 use mathlib.Core.List.{List}
 use Prim.Native.Nat.{ℕ, ◌*◌, ◌≤◌}

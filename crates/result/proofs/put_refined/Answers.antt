@@ -1,5 +1,4 @@
 -- `put_refined` refines into 64 words, which is not refused, and writes what that says.
-use borrow.Author.Rules.{rules}
 use mathlib.Core.Path.{◌∙◌}
 use lib.ListN.{replicate}
 use Rattle.model.proofs.Sheet.{few_rows}

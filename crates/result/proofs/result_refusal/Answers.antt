@@ -1,5 +1,4 @@
 -- `result_refusal` refuses by the shape first, so that the result's length fits; then it hands its own checks, in number order, to the shared ones.
-use borrow.Author.Rules.{rules}
 use mathlib.Core.Path.{refl, sym, ◌∙◌}
 use Prim.Native.Nat.{◌≤◌}
 use native.Mathlib.Omega.{arith}

@@ -1,5 +1,4 @@
 -- `write_result_columns` makes its checks first; a result that passes them has room, and is written into exactly its part of the output.
-use borrow.Author.Rules.{rules}
 use mathlib.Core.Path.{◌≡◌, refl, sym, ◌∙◌, ap, ap₂}
 use mathlib.Core.List.{List, ◌++◌}
 use Prim.Native.Nat.{ℕ, ◌+◌, ◌*◌, ◌≤◌}

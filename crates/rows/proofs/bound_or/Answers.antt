@@ -1,5 +1,4 @@
 -- `bound_or` goes by the cases of the answer.
-use borrow.Author.Rules.{rules}
 use Rattle.rows.specs.Words.{bound_or}
 use Rattle.rows.proofs.bound_or.Goals as goal
 

@@ -1,5 +1,4 @@
 -- `rows::cost` meets its contract: the word at its place of the row.
-use borrow.Author.Rules.{rules}
 use Rattle.model.specs.Sheet.{triples}
 use Rattle.rows.specs.Words.{sheet_of}
 use Rattle.rows.proofs.cost.Goals as goal

@@ -1,11 +1,9 @@
 -- `rows::first_outside` meets its contract. The loop's invariant: no row passed is outside. The measure is how many rows are left.
-use mathlib.Core.Path.{◌≡◌, sym, ◌∙◌, ap}
-use mathlib.Core.Bool.{false, not}
+use mathlib.Core.Path.{sym, ◌∙◌, ap}
+use mathlib.Core.Bool.{not}
 use mathlib.Core.Option.{none, some}
-use Prim.Native.Nat.{ℕ, ◌-◌, ◌≤◌, ◌<◌}
 use native.Mathlib.Omega.{arith}
 use borrow.Author.Count.{below_more}
-use borrow.Author.Rules.{rules}
 use Rattle.laws.proofs.Search.{least-fixed}
 use Rattle.model.specs.Sheet.{triples}
 use Rattle.rows.specs.Words.{outside, found_of, first_outside}

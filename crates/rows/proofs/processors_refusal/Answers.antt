@@ -1,5 +1,4 @@
 -- `rows::processors_refusal` meets its contract: 1 to 64 is the range allowed.
-use borrow.Author.Rules.{rules}
 use Rattle.model.specs.Sheet.{processors_allowed}
 use Rattle.rows.specs.Checks.{range_refusal, processors_refusal}
 use Rattle.rows.proofs.processors_refusal.Goals as goal

@@ -1,10 +1,7 @@
 -- `rows::shape_refusal` meets its contract: an empty list has no row, and the other tests are the definition's, in their order.
 use mathlib.Core.Path.{◌≡◌, sym, ◌∙◌, ap}
 use mathlib.Core.Bool.{false, not}
-use mathlib.Core.List.{List}
-use Prim.Native.Nat.{ℕ}
 use native.Mathlib.Omega.{arith}
-use borrow.Author.Rules.{rules}
 use borrow.Author.Tests.{eq-eqb, ne_eqb, lt-ltb}
 use Rattle.laws.proofs.Choice.{pick_yes, pick_no}
 use Rattle.model.specs.Sheet.{triples}

@@ -1,9 +1,7 @@
 -- `rows::words_refusal` meets its contract: a check before the rows' sizes that holds decides, else the first row outside.
 use mathlib.Core.Path.{◌≡◌, sym, ◌∙◌, ap}
-use mathlib.Core.List.{List}
 use Prim.Native.Nat.{ℕ, ◌≤◌}
 use native.Mathlib.Omega.{arith}
-use borrow.Author.Rules.{rules}
 use Rattle.laws.proofs.Choice.{is_refused, not-refused}
 use Rattle.model.specs.Sheet.{triples}
 use Rattle.rows.specs.Words.{sheet_of, found_of, first_outside}

@@ -7,7 +7,6 @@ use native.Mathlib.Nat.{mul-le-mul, le_refl}
 use Rattle.model.specs.Sheet.{columns}
 use Rattle.model.proofs.Sheet.{row_sized}
 use Rattle.refinement.proofs.Ways.{cap_level, cap_with_row}
-use borrow.Author.Rules.{rules}
 use Rattle.slopes.proofs.cap_line.Goals as goal
 use Rattle.slopes.proofs.cap_line.Goals.{Start}
 

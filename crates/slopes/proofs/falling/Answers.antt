@@ -1,6 +1,5 @@
 -- `falling` takes the steeper line where it lasts for a step, and for no longer.
 use native.Mathlib.Omega.{arith}
-use borrow.Author.Rules.{rules}
 use Rattle.slopes.proofs.falling.Goals as goal
 
 pub returns-then-lasts-eq0 : goal.returns-then-lasts-eq0

@@ -1,6 +1,5 @@
 -- `other_line` leaves the row itself out by its place.
 use Rattle.refinement.proofs.Ways.{own_adds, other_adds}
-use borrow.Author.Rules.{rules}
 use Rattle.slopes.proofs.other_line.Goals as goal
 
 pub returns-then-other-way : goal.returns-then-other-way

@@ -2,7 +2,6 @@
 use native.Mathlib.Omega.{arith}
 use native.Mathlib.Nat.{zero-add}
 use Rattle.model.proofs.Lines.{share_falls, share_falls_fast}
-use borrow.Author.Rules.{rules}
 use Rattle.slopes.proofs.share_line.Goals as goal
 
 pub returns : goal.returns

@@ -3,7 +3,6 @@ use native.Mathlib.Omega.{arith}
 use Prim.Native.Nat.{◌-◌}
 use native.Mathlib.Nat.{div-le_self}
 use Rattle.refinement.proofs.Lines.{stays_all, stays_some}
-use borrow.Author.Rules.{rules}
 use Rattle.slopes.proofs.steps_below.Goals as goal
 
 pub returns-then-room-line : goal.returns-then-room-line

@@ -3,7 +3,6 @@ use native.Mathlib.Omega.{arith}
 use Prim.Native.Nat.{ℕ, ◌/◌}
 use native.Mathlib.Nat.{le_trans, mul-le-mul, le_refl, div-mul-le_self, div-le_self}
 use Rattle.refinement.specs.Inner.Ray.{Lasts}
-use borrow.Author.Rules.{rules}
 use Rattle.slopes.proofs.steps_within.Goals as goal
 
 -- No step lasts anyhow.

@@ -1,13 +1,9 @@
 -- `sum_of_lines` adds line by line, and lasts as long as the shortest.
-use borrow.Author.Rules.{rules}
 use native.Mathlib.Omega.{arith}
 use mathlib.Core.Path.{◌≡◌}
-use Prim.Native.Nat.{◌-◌, ◌≤◌}
 use Rattle.model.specs.Sheet.{columns}
 use Rattle.model.proofs.Sheet.{few_rows}
-use Rattle.model.specs.Answer.{method_of}
-use Rattle.refinement.specs.Inner.Ray.{added_along}
-use Rattle.refinement.proofs.Lines.{Summed, summed_none, summed_more}
+use Rattle.refinement.proofs.Lines.{summed_none, summed_more}
 use Rattle.refinement.proofs.Ways.{summed_all}
 use Rattle.slopes.proofs.sum_of_lines.Goals as goal
 

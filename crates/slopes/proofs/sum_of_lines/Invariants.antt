@@ -1,14 +1,9 @@
 -- The loop of `sum_of_lines`: what lasts from turn to turn, and what falls.
-use borrow.Author.Rules.{rules}
-use native.Mathlib.Omega.{arith}
-use mathlib.Core.Path.{◌≡◌}
 use Prim.Native.Nat.{◌-◌, ◌≤◌}
 use Rattle.model.specs.Sheet.{columns}
-use Rattle.model.proofs.Sheet.{few_rows}
 use Rattle.model.specs.Answer.{method_of}
 use Rattle.refinement.specs.Inner.Ray.{added_along}
-use Rattle.refinement.proofs.Lines.{Summed, summed_none, summed_more}
-use Rattle.refinement.proofs.Ways.{summed_all}
+use Rattle.refinement.proofs.Lines.{Summed}
 use Rattle.slopes.proofs.sum_of_lines.Given as goal
 
 abbrev pub invariant-loop-other : goal.invariant-loop-other

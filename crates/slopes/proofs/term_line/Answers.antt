@@ -6,7 +6,6 @@ use native.Mathlib.Nat.{le_trans}
 use Rattle.model.proofs.Sheet.{row_sized}
 use Rattle.model.specs.Sheet.{columns}
 use Rattle.refinement.proofs.Ways.{time_room, bcl_lies, rta_lies}
-use borrow.Author.Rules.{rules}
 use Rattle.slopes.proofs.term_line.Goals as goal
 use Rattle.slopes.proofs.term_line.Goals.{Start}
 

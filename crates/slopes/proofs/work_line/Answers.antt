@@ -4,7 +4,6 @@ use Prim.Native.Nat.{◌/◌, ◌*◌, ◌≤◌}
 use native.Mathlib.Nat.{div-add-mod', mul-le-mul, le_refl}
 use Rattle.model.proofs.Lines.{work_falls, work_falls_fast}
 use Rattle.refinement.proofs.Limits.{periods_within}
-use borrow.Author.Rules.{rules}
 use Rattle.slopes.proofs.work_line.Goals as goal
 
 pub overflow_mul-shrink : goal.overflow_mul-shrink

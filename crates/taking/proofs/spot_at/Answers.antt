@@ -1,7 +1,6 @@
 -- A spot worked out by division.
 use mathlib.Core.Path.{refl}
 use native.Mathlib.Omega.{arith}
-use borrow.Author.Rules.{rules}
 use Rattle.grammar.specs.Grammar.{head}
 use Rattle.taking.proofs.spot_at.Goals as goal
 

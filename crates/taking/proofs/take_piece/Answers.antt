@@ -1,6 +1,5 @@
 -- Behind a wrong byte nothing is taken; else line one has what it takes, and the rows have the rest.
 use native.Mathlib.Omega.{arith}
-use borrow.Author.Rules.{rules}
 use Rattle.grammar.specs.Grammar.{head}
 use Rattle.pieces.proofs.Steps.{stuck}
 use Rattle.pieces.proofs.LineOne.{first_wrong, first_all, first_then}

@@ -1,17 +1,14 @@
 -- The rows' lines byte by byte: what the loop has passed was right and its digits are put, so where it stops the piece is taken.
-use Prim.Native.Nat.{ℕ, ◌-◌}
+use Prim.Native.Nat.{ℕ}
 use mathlib.Core.Path.{◌≡◌, sym, ◌∙◌, ap}
 use native.Mathlib.Omega.{arith}
-use borrow.Author.Tests.{not-true, not-false}
-use lib.ListN.{length, get_or}
+use lib.ListN.{get_or}
 use Rattle.grammar.specs.Grammar.{sheet_length}
 use Rattle.pieces.specs.Feeding.{announced}
 use Rattle.pieces.specs.Inner.{row_allows}
 use Rattle.pieces.proofs.Steps.{row_inside}
-use Rattle.pieces.proofs.RowLines.{Going, going_none, going_done, going_more, going_wrong}
-use Rattle.taking.specs.Inner.{Placed}
+use Rattle.pieces.proofs.RowLines.{going_none, going_done, going_more, going_wrong}
 use mathlib.Core.Path.{ap}
-use mathlib.Core.Bool.{not}
 use Rattle.taking.proofs.take_rows.Goals as goal
 use Rattle.taking.proofs.take_rows.Goals.{After-row_allows}
 

@@ -1,5 +1,4 @@
 -- `answer_quickly` lends space that every allowed sheet fits, and its answer is told by one number.
-use borrow.Author.Rules.{rules}
 use mathlib.Core.Path.{◌≡◌, refl, sym}
 use Prim.Native.Nat.{ℕ, ◌≤◌}
 use lib.ListN.{length, take, replicate}

@@ -1,5 +1,4 @@
 -- `bound_quickly` hands the row to the method that its number names.
-use borrow.Author.Rules.{rules}
 use mathlib.Core.Path.{refl, ◌∙◌, ap}
 use Rattle.rows.specs.declared.Found.{Found}
 use Rattle.rows.specs.Words.{bound_or}

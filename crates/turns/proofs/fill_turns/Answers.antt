@@ -1,9 +1,6 @@
 -- `fill_turns` stores each row's turn behind those before it and gathers the marks, all from the bounds at its start.
-use borrow.Author.Rules.{rules}
 use mathlib.Core.Path.{◌≡◌, refl, ◌∙◌, ap}
-use mathlib.Core.List.{◌++◌}
-use Prim.Native.Nat.{◌-◌, ◌≤◌}
-use lib.ListN.{length, drop, length-set}
+use lib.ListN.{length-set}
 use Rattle.model.specs.Sheet.{columns}
 use Rattle.model.proofs.Sheet.{few_rows}
 use Rattle.laws.specs.Sum.{total}
@@ -11,7 +8,7 @@ use Rattle.laws.specs.Fill.{listed}
 use Rattle.laws.specs.Bits.{bits}
 use Rattle.laws.proofs.Fill.{listed-none, listed_more, listed_all}
 use Rattle.laws.proofs.Bits.{bits_below, bits_next}
-use Rattle.model.specs.Refine.{turn, round, marked, marks}
+use Rattle.model.specs.Refine.{round, marks}
 use Rattle.refinement.specs.Refinement.{ask_of}
 use Rattle.refinement.proofs.Steps.{turn_found, mark_found}
 use native.Mathlib.Omega.{arith}

@@ -1,20 +1,13 @@
 -- The loop of `fill_turns`: what lasts from turn to turn, and what falls.
-use borrow.Author.Rules.{rules}
-use mathlib.Core.Path.{◌≡◌, refl, ◌∙◌, ap}
+use mathlib.Core.Path.{◌≡◌}
 use mathlib.Core.List.{◌++◌}
 use Prim.Native.Nat.{◌-◌, ◌≤◌}
-use lib.ListN.{length, drop, length-set}
+use lib.ListN.{length, drop}
 use Rattle.model.specs.Sheet.{columns}
-use Rattle.model.proofs.Sheet.{few_rows}
-use Rattle.laws.specs.Sum.{total}
 use Rattle.laws.specs.Fill.{listed}
 use Rattle.laws.specs.Bits.{bits}
-use Rattle.laws.proofs.Fill.{listed-none, listed_more, listed_all}
-use Rattle.laws.proofs.Bits.{bits_below, bits_next}
-use Rattle.model.specs.Refine.{turn, round, marked, marks}
+use Rattle.model.specs.Refine.{turn, marked}
 use Rattle.refinement.specs.Refinement.{ask_of}
-use Rattle.refinement.proofs.Steps.{turn_found, mark_found}
-use native.Mathlib.Omega.{arith}
 use Rattle.turns.proofs.fill_turns.Given as goal
 
 abbrev pub invariant-loop-row : goal.invariant-loop-row

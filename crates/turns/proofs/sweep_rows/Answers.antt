@@ -1,16 +1,14 @@
 -- `sweep_rows` stands where a sweep stands before each row, and one turn takes it on.
-use borrow.Author.Rules.{rules}
 use mathlib.Core.Path.{◌≡◌, ◌∙◌, sym, refl}
-use mathlib.Core.Logic.{⊎_elim, inl, inr}
-use Prim.Native.Nat.{◌-◌}
-use lib.ListN.{length, get_or, length-set}
+use mathlib.Core.Logic.{inl, inr}
+use lib.ListN.{get_or, length-set}
 use Rattle.model.specs.Sheet.{columns}
 use Rattle.model.proofs.Sheet.{few_rows}
 use Rattle.rows.specs.Words.{found_of}
 use Rattle.refinement.specs.Refinement.{ask_of}
 use Rattle.refinement.specs.Question.{Ready}
 use Rattle.refinement.proofs.ByMethod.{found_told}
-use Rattle.refinement.proofs.Steps.{Sweeping, turn_found, ready_lower, sweep_start, sweep_end, sweeping_held, sweeping_below, sweep_on, ask_regular}
+use Rattle.refinement.proofs.Steps.{turn_found, ready_lower, sweep_start, sweep_end, sweeping_held, sweeping_below, sweep_on, ask_regular}
 use native.Mathlib.Omega.{arith}
 use Rattle.turns.proofs.sweep_rows.Goals as goal
 use Rattle.turns.proofs.sweep_rows.Goals.{then-old-bound, else-old-bound}

@@ -1,17 +1,10 @@
 -- The loop of `sweep_rows`: what lasts from turn to turn, and what falls.
-use borrow.Author.Rules.{rules}
-use mathlib.Core.Path.{◌≡◌, ◌∙◌, sym, refl}
-use mathlib.Core.Logic.{⊎_elim, inl, inr}
+use mathlib.Core.Path.{◌≡◌}
 use Prim.Native.Nat.{◌-◌}
-use lib.ListN.{length, get_or, length-set}
+use lib.ListN.{length}
 use Rattle.model.specs.Sheet.{columns}
-use Rattle.model.proofs.Sheet.{few_rows}
-use Rattle.rows.specs.Words.{found_of}
 use Rattle.refinement.specs.Refinement.{ask_of}
-use Rattle.refinement.specs.Question.{Ready}
-use Rattle.refinement.proofs.ByMethod.{found_told}
-use Rattle.refinement.proofs.Steps.{Sweeping, turn_found, ready_lower, sweep_start, sweep_end, sweeping_held, sweeping_below, sweep_on, ask_regular}
-use native.Mathlib.Omega.{arith}
+use Rattle.refinement.proofs.Steps.{Sweeping}
 use Rattle.turns.proofs.sweep_rows.Given as goal
 
 abbrev pub invariant-loop-row : goal.invariant-loop-row

@@ -1,5 +1,4 @@
 -- `with_mark` sets a bit above all those seen, so that or is plus.
-use borrow.Author.Rules.{rules}
 use mathlib.Core.Path.{◌≡◌, ◌∙◌}
 use Prim.Native.Nat.{ℕ, ◌+◌, ◌*◌, ◌^◌, ◌%◌, ◌<◌}
 use native.Mathlib.Nat.{add_comm}

@@ -1,8 +1,6 @@
 -- `bound_allowed` makes the definition's two tests, in their order.
-use borrow.Author.Rules.{rules}
 use mathlib.Core.Path.{sym}
 use Prim.Native.Nat.{◌≤◌, ◌<◌}
-use lib.Dec.{leb}
 use lib.ListN.{get_or}
 use borrow.Author.Tests.{lt-leb, le-leb}
 use Rattle.model.specs.Sheet.{columns}

@@ -1,16 +1,9 @@
 -- `bounds_allowed` passes every row or stops at one that fails.
-use borrow.Author.Rules.{rules}
 use mathlib.Core.Path.{◌≡◌, refl, sym, ◌∙◌, ap}
-use mathlib.Core.Bool.{true}
-use Prim.Native.Nat.{◌-◌, ◌≤◌}
-use borrow.Author.Tests.{not-true, not-false}
-use Rattle.model.specs.Sheet.{columns}
 use Rattle.laws.specs.Bits.{every}
 use Rattle.laws.proofs.Bits.{every_more, every_fails}
-use Rattle.refinement.specs.Question.{bound_allowed}
 use native.Mathlib.Omega.{arith}
 use mathlib.Core.Path.{ap}
-use mathlib.Core.Bool.{not}
 use Rattle.analysis.proofs.checks.bounds_allowed.Goals as goal
 
 pub loop-row-init : goal.loop-row-init

@@ -1,14 +1,10 @@
 -- The loop of `bounds_allowed`: what lasts from turn to turn, and what falls.
-use borrow.Author.Rules.{rules}
-use mathlib.Core.Path.{◌≡◌, refl, sym, ◌∙◌, ap}
+use mathlib.Core.Path.{◌≡◌}
 use mathlib.Core.Bool.{true}
 use Prim.Native.Nat.{◌-◌, ◌≤◌}
-use borrow.Author.Tests.{not-true, not-false}
 use Rattle.model.specs.Sheet.{columns}
 use Rattle.laws.specs.Bits.{every}
-use Rattle.laws.proofs.Bits.{every_more, every_fails}
 use Rattle.refinement.specs.Question.{bound_allowed}
-use native.Mathlib.Omega.{arith}
 use Rattle.analysis.proofs.checks.bounds_allowed.Given as goal
 
 abbrev pub invariant-loop-row : goal.invariant-loop-row

@@ -1,11 +1,10 @@
 -- `question_refusal` makes the first checks together, and check 9 only where they passed.
-use borrow.Author.Rules.{rules}
 use mathlib.Core.Path.{◌≡◌, sym, ◌∙◌, ap}
 use mathlib.Core.List.{[], ◌∷◌}
 use Rattle.model.proofs.Sheet.{few_rows}
 use Rattle.rows.specs.declared.Refusal.{Refusal}
 use Rattle.rows.specs.Checks.{processors_refusal, method_refusal, first_held, laid_refusal}
-use Rattle.rows.specs.Layouts.{Lent, in_columns}
+use Rattle.rows.specs.Layouts.{in_columns}
 use Rattle.rows.proofs.Fold.{held_last, held_more}
 use Rattle.rows.proofs.Checks.{accepted}
 use Rattle.rows.proofs.Layouts.{columns_even}

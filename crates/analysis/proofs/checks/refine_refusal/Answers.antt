@@ -1,5 +1,4 @@
 -- `refine_refusal` hands its own checks, in number order, to the shared ones.
-use borrow.Author.Rules.{rules}
 use mathlib.Core.Path.{refl}
 use Rattle.model.specs.Sheet.{columns}
 use Rattle.refinement.proofs.Refinement.{refusal_made}

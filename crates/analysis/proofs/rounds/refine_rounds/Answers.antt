@@ -1,6 +1,5 @@
 -- `refine_rounds` is a thin layer: refused by 2 or 3, or answered as the same rows are in columns.
 use mathlib.Core.Path.{sym, ◌∙◌}
-use borrow.Author.Rules.{rules}
 use lib.ListN.{length}
 use lib.Seq.{length-take-le}
 use Rattle.rows.specs.Inner.{Fronts}

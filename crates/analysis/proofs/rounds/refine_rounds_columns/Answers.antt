@@ -1,5 +1,4 @@
 -- `refine_rounds_columns` answers by its refusal, or lends the front of the words to the engine: the laws of both entries, at this engine.
-use borrow.Author.Rules.{rules}
 use mathlib.Core.Path.{◌≡◌, sym, ◌∙◌, ap}
 use lib.ListN.{length}
 use lib.Seq.{length-take-le}

@@ -1,12 +1,10 @@
 -- `demand::climb::busy_length` meets its contract: the busy sum keeps order, and the loop climbs it from 1. The measure is what is left of
 -- the horizon.
 use mathlib.Core.Path.{sym, ◌∙◌, ap}
-use Prim.Native.Nat.{◌+◌, ◌-◌}
 use native.Mathlib.Omega.{arith}
-use Rattle.model.specs.Sheet.{columns}
-use Rattle.model.specs.Demand.{busy, busy_length}
+use Rattle.model.specs.Demand.{busy_length}
 use Rattle.rows.specs.Words.{found_of}
-use Rattle.laws.proofs.Climb.{Climbed, climbed_first, climbed_more, climbed_found, climbed_past}
+use Rattle.laws.proofs.Climb.{climbed_first, climbed_more, climbed_found, climbed_past}
 use Rattle.verdict.proofs.Busy.{busy_mono}
 use Rattle.verdict.proofs.Sound.{shorter_given, busy_from_one}
 use Rattle.demand.proofs.climb.busy_length.Goals as goal

@@ -1,5 +1,4 @@
 -- `demand::climb::busy_part` meets its contract: the ceiling is one more than the floor before it, and the row's sizes keep it small.
-use borrow.Author.Rules.{rules}
 use native.Mathlib.Omega.{arith}
 use Rattle.model.specs.Sheet.{columns}
 use Rattle.verdict.proofs.Sound.{row_sizes, row_busy_worked, row_busy_few, row_busy_small}

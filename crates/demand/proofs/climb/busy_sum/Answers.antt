@@ -1,13 +1,11 @@
 -- `demand::climb::busy_sum` meets its contract. The loop's invariant: the sum is that of the rows passed. At most 64 rows keep it
 -- below 2 ^ 31.
-use mathlib.Core.Path.{◌≡◌, refl, ◌∙◌, ap}
-use Prim.Native.Nat.{◌-◌, ◌≤◌}
+use mathlib.Core.Path.{refl, ◌∙◌, ap}
 use native.Mathlib.Nat.{le_refl}
 use native.Mathlib.Omega.{arith}
-use Rattle.model.specs.Sheet.{columns}
 use Rattle.laws.specs.Sum.{total}
 use Rattle.laws.proofs.Sum.{total_step}
-use Rattle.model.specs.Demand.{busy_of, busy}
+use Rattle.model.specs.Demand.{busy}
 use Rattle.verdict.proofs.Sound.{all_passed, row_given, busy_sum_small}
 use Rattle.demand.proofs.climb.busy_sum.Goals as goal
 

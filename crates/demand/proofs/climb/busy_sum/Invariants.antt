@@ -1,13 +1,9 @@
 -- The loop of `busy_sum`: what lasts from turn to turn, and what falls.
-use mathlib.Core.Path.{◌≡◌, refl, ◌∙◌, ap}
+use mathlib.Core.Path.{◌≡◌}
 use Prim.Native.Nat.{◌-◌, ◌≤◌}
-use native.Mathlib.Nat.{le_refl}
-use native.Mathlib.Omega.{arith}
 use Rattle.model.specs.Sheet.{columns}
 use Rattle.laws.specs.Sum.{total}
-use Rattle.laws.proofs.Sum.{total_step}
-use Rattle.model.specs.Demand.{busy_of, busy}
-use Rattle.verdict.proofs.Sound.{all_passed, row_given, busy_sum_small}
+use Rattle.model.specs.Demand.{busy_of}
 use Rattle.demand.proofs.climb.busy_sum.Given as goal
 
 abbrev pub invariant-loop-row : goal.invariant-loop-row

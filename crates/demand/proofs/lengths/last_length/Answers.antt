@@ -1,6 +1,5 @@
 -- `demand::lengths::last_length` meets its contract: case by case.
 use mathlib.Core.Path.{sym, ap}
-use borrow.Author.Rules.{rules}
 use Rattle.rows.specs.declared.Found.{Found}
 use Rattle.verdict.specs.Inner.{furthest}
 use Rattle.demand.proofs.lengths.last_length.Goals as goal

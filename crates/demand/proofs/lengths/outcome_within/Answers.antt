@@ -1,17 +1,15 @@
 -- `demand::lengths::outcome_within` meets its contract. The length loop's invariant: every length before this one is clear. The row loop's:
 -- the rows passed are looked at in this length. Each way out of the loops is one verdict.
-use borrow.Author.Rules.{rules}
 use mathlib.Core.Path.{sym, ◌∙◌, ap}
-use Prim.Native.Nat.{◌+◌, ◌-◌, ◌≤◌}
+use Prim.Native.Nat.{◌≤◌}
 use native.Mathlib.Nat.{le_trans}
 use native.Mathlib.Omega.{arith}
-use Rattle.model.specs.Sheet.{columns}
 use Rattle.model.specs.Demand.{miss}
 use Rattle.model.proofs.Sheet.{periods_positive}
 use Rattle.model.proofs.Demand.{verdict-fixed}
 use Rattle.verdict.specs.OneProcessor.{outcome_of}
 use Rattle.verdict.specs.Inner.{look_of}
-use Rattle.verdict.proofs.Looked.{Looked, Cleared, look_demand, cleared_first, looked_none, looked_more, looked_over, cleared_next}
+use Rattle.verdict.proofs.Looked.{look_demand, cleared_first, looked_none, looked_more, looked_over, cleared_next}
 use Rattle.verdict.proofs.Sound.{shorter_given, inside, all_passed, row_given, demand_each}
 use Rattle.verdict.proofs.Last.{last_bounds, decided}
 use Rattle.demand.proofs.lengths.outcome_within.Goals as goal

@@ -1,5 +1,4 @@
 -- `demand::lengths::without_miss` meets its contract: case by case.
-use borrow.Author.Rules.{rules}
 use mathlib.Core.Path.{sym, ap}
 use Rattle.verdict.specs.Inner.{without_miss}
 use Rattle.demand.proofs.lengths.without_miss.Goals as goal

@@ -1,11 +1,10 @@
 -- `density::sides::both_sides` meets its contract. The loop's invariant: both sides hold the densities of the rows passed.
-use borrow.Author.Rules.{rules}
-use mathlib.Core.Path.{◌≡◌, ◌∙◌, ap, ap₂}
-use Prim.Native.Nat.{◌-◌, ◌/◌, ◌≤◌}
+use mathlib.Core.Path.{◌∙◌, ap, ap₂}
+use Prim.Native.Nat.{◌/◌}
 use native.Mathlib.Omega.{arith}
 use Rattle.model.specs.Sheet.{columns}
 use Rattle.model.specs.Demand.{ceiling}
-use Rattle.model.specs.Density.{rounded, rounded_up, rounded_down}
+use Rattle.model.specs.Density.{rounded}
 use Rattle.model.proofs.Rounding.{floor_rounds, ceiling-rounds}
 use Rattle.quick_look.specs.declared.Side.{Side}
 use Rattle.quick_look.specs.declared.Sides.{Sides}

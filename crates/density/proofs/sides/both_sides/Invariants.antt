@@ -1,16 +1,9 @@
 -- The loop of `both_sides`: what lasts from turn to turn, and what falls.
-use borrow.Author.Rules.{rules}
-use mathlib.Core.Path.{◌≡◌, ◌∙◌, ap, ap₂}
-use Prim.Native.Nat.{◌-◌, ◌/◌, ◌≤◌}
-use native.Mathlib.Omega.{arith}
+use mathlib.Core.Path.{◌≡◌}
+use Prim.Native.Nat.{◌-◌, ◌≤◌}
 use Rattle.model.specs.Sheet.{columns}
-use Rattle.model.specs.Demand.{ceiling}
-use Rattle.model.specs.Density.{rounded, rounded_up, rounded_down}
-use Rattle.model.proofs.Rounding.{floor_rounds, ceiling-rounds}
-use Rattle.quick_look.specs.declared.Side.{Side}
-use Rattle.quick_look.specs.declared.Sides.{Sides}
-use Rattle.quick_look.specs.Inner.{side_of, sides_of}
-use Rattle.quick_look.proofs.Summed.{side_none, side_more, all_passed, row_whole, row_small, side_small}
+use Rattle.model.specs.Density.{rounded_up, rounded_down}
+use Rattle.quick_look.specs.Inner.{side_of}
 use Rattle.density.proofs.sides.both_sides.Given as goal
 
 abbrev pub invariant-loop-row : goal.invariant-loop-row

@@ -1,5 +1,4 @@
 -- `density::sides::left_side` meets its contract: at most 64 densities of at most 1, and 63 times the largest, fit 64 bits.
-use borrow.Author.Rules.{rules}
 use native.Mathlib.Omega.{arith}
 use Rattle.quick_look.proofs.Summed.{extra_small}
 use Rattle.density.proofs.sides.left_side.Goals as goal

@@ -1,5 +1,4 @@
 -- `density::sides::rounded_up` meets its contract: rounded up is one more than rounded down exactly where a rest is left.
-use borrow.Author.Rules.{rules}
 use mathlib.Core.Path.{◌∙◌, ap}
 use Prim.Native.Nat.{ℕ, ◌+◌, ◌*◌, ◌≤◌}
 use native.Mathlib.Nat.{div-mul-le_self, div-le_self}

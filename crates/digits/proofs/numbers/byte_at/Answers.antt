@@ -1,5 +1,4 @@
 -- The byte at an offset: past the end the test says that nothing stands there.
-use borrow.Author.Rules.{rules}
 use mathlib.Core.Path.{sym}
 use lib.ListN.{get_or-eq_default}
 use Rattle.digits.proofs.numbers.byte_at.Goals as goal

@@ -1,10 +1,9 @@
 -- The lent part is filled from its end: what is stored stands behind the digits still to come, and together they are the digits asked for.
-use Prim.Native.Nat.{◌≤◌}
 use mathlib.Core.Path.{◌≡◌, refl, ◌∙◌}
-use mathlib.Core.List.{◌++◌, append-nil}
+use mathlib.Core.List.{append-nil}
 use native.Mathlib.Nat.{le_refl}
 use native.Mathlib.Omega.{arith}
-use lib.ListN.{length, drop, length-set}
+use lib.ListN.{length, length-set}
 use lib.Seq.{drop-length}
 use Rattle.digits.specs.Digits.{digit_byte, digits}
 use Rattle.digits.proofs.Digit.{byte_last}

@@ -1,14 +1,9 @@
 -- The loop of `fill`: what lasts from turn to turn, and what falls.
 use Prim.Native.Nat.{◌≤◌}
-use mathlib.Core.Path.{◌≡◌, refl, ◌∙◌}
-use mathlib.Core.List.{◌++◌, append-nil}
-use native.Mathlib.Nat.{le_refl}
-use native.Mathlib.Omega.{arith}
-use lib.ListN.{length, drop, length-set}
-use lib.Seq.{drop-length}
-use Rattle.digits.specs.Digits.{digit_byte, digits}
-use Rattle.digits.proofs.Digit.{byte_last}
-use Rattle.digits.proofs.Number.{digits_store}
+use mathlib.Core.Path.{◌≡◌}
+use mathlib.Core.List.{◌++◌}
+use lib.ListN.{length, drop}
+use Rattle.digits.specs.Digits.{digits}
 use Rattle.digits.proofs.numbers.fill.Given as goal
 
 abbrev pub invariant-loop-left : goal.invariant-loop-left

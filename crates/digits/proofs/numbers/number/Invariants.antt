@@ -1,10 +1,7 @@
 -- The loop of `number`: what lasts from turn to turn, and what falls.
-use Prim.Native.Nat.{◌+◌, ◌-◌, ◌^◌, ◌≤◌, ◌<◌, zero-le}
-use mathlib.Core.Path.{◌≡◌, refl, ◌∙◌, ap}
-use native.Mathlib.Omega.{arith}
-use lib.ListN.{get_or}
-use Rattle.digits.specs.Digits.{digit_value, number}
-use Rattle.digits.proofs.Number.{number_more, number_small}
+use Prim.Native.Nat.{◌-◌, ◌≤◌}
+use mathlib.Core.Path.{◌≡◌}
+use Rattle.digits.specs.Digits.{number}
 use Rattle.digits.proofs.numbers.number.Given as goal
 
 abbrev pub invariant-loop-passed : goal.invariant-loop-passed

@@ -1,5 +1,4 @@
 -- `put_line` writes from the front: two numbers of two digits, one of so many, then the line's end.
-use borrow.Author.Rules.{rules}
 use mathlib.Core.List.{◌++◌}
 use mathlib.Core.Path.{◌≡◌}
 use Prim.Native.Nat.{◌+◌}

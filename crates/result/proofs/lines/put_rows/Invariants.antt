@@ -1,15 +1,10 @@
 -- The loop of `put_rows`: what lasts from turn to turn, and what falls.
-use borrow.Author.Rules.{rules}
-use Prim.Native.Nat.{◌+◌, ◌*◌, ◌-◌, ◌≤◌}
-use mathlib.Core.Path.{◌≡◌, refl}
+use Prim.Native.Nat.{◌*◌, ◌-◌, ◌≤◌}
+use mathlib.Core.Path.{◌≡◌}
 use mathlib.Core.List.{◌++◌}
-use lib.ListN.{length, drop, length-drop}
-use lib.Seq.{length-take-le}
+use lib.ListN.{drop}
 use Rattle.laws.specs.Fill.{joined}
-use Rattle.report.specs.Lines.{result_line, result_row_line, result_line_of}
-use Rattle.report.proofs.Text.{row_line-length, rows_length}
-use native.Mathlib.Omega.{arith}
-use Rattle.laws.proofs.Fill.{block_joined, blocks_kept, blocks_fill}
+use Rattle.report.specs.Lines.{result_line, result_line_of}
 use Rattle.result.proofs.lines.put_rows.Given as goal
 
 abbrev pub invariant-loop-row : goal.invariant-loop-row

@@ -1,5 +1,4 @@
 -- `rows::inner::row_allowed_at` meets its contract: the three words are the row's, and a period of 0 is not allowed.
-use borrow.Author.Rules.{rules}
 use mathlib.Core.Path.{◌≡◌, refl, sym}
 use mathlib.Core.Bool.{Bool, true, false}
 use Prim.Native.Nat.{ℕ}

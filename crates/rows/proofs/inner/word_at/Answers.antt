@@ -1,6 +1,5 @@
 -- `rows::inner::word_at` meets its contract: past the end `get_or` reads 0.
 use mathlib.Core.Path.{sym}
-use borrow.Author.Rules.{rules}
 use lib.ListN.{get_or-eq_default}
 use Rattle.rows.proofs.inner.word_at.Goals as goal
 

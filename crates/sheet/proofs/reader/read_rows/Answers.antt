@@ -1,10 +1,7 @@
 -- The rows' words, one after the other: what stands in front is what the definition lists so far.
-use Prim.Native.Nat.{◌-◌, ◌≤◌}
 use mathlib.Core.Path.{◌≡◌, refl}
-use mathlib.Core.List.{◌++◌}
 use native.Mathlib.Omega.{arith}
-use lib.ListN.{length, drop, length-set}
-use Rattle.laws.specs.Fill.{listed}
+use lib.ListN.{length, length-set}
 use Rattle.laws.proofs.Fill.{listed-none, listed_more, listed_all}
 use Rattle.grammar.specs.Grammar.{head, line}
 use Rattle.grammar.specs.Lines.{word_offset, word_written}

@@ -1,13 +1,10 @@
 -- The loop of `read_rows`: what lasts from turn to turn, and what falls.
 use Prim.Native.Nat.{◌-◌, ◌≤◌}
-use mathlib.Core.Path.{◌≡◌, refl}
+use mathlib.Core.Path.{◌≡◌}
 use mathlib.Core.List.{◌++◌}
-use native.Mathlib.Omega.{arith}
-use lib.ListN.{length, drop, length-set}
+use lib.ListN.{length, drop}
 use Rattle.laws.specs.Fill.{listed}
-use Rattle.laws.proofs.Fill.{listed-none, listed_more, listed_all}
-use Rattle.grammar.specs.Grammar.{head, line}
-use Rattle.grammar.specs.Lines.{word_offset, word_written}
+use Rattle.grammar.specs.Lines.{word_written}
 use Rattle.sheet.proofs.reader.read_rows.Given as goal
 
 abbrev pub invariant-loop-word : goal.invariant-loop-word

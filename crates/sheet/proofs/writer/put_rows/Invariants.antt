@@ -1,17 +1,12 @@
 -- The loop of `put_rows`: what lasts from turn to turn, and what falls.
-use Prim.Native.Nat.{◌+◌, ◌*◌, ◌-◌, ◌≤◌}
-use mathlib.Core.Path.{◌≡◌, refl}
+use Prim.Native.Nat.{◌*◌, ◌-◌, ◌≤◌}
+use mathlib.Core.Path.{◌≡◌}
 use mathlib.Core.List.{◌++◌}
-use native.Mathlib.Omega.{arith}
-use borrow.Author.Rules.{rules}
-use lib.ListN.{length, drop, length-drop}
-use lib.Seq.{length-take-le}
+use lib.ListN.{drop}
 use Rattle.laws.specs.Fill.{joined}
-use Rattle.laws.proofs.Fill.{block_joined, blocks_kept, blocks_fill}
 use Rattle.rows.specs.Words.{sheet_of}
 use Rattle.grammar.specs.Grammar.{line}
 use Rattle.grammar.specs.Lines.{line_of}
-use Rattle.grammar.proofs.Lines.{row_line-length, rows_length}
 use Rattle.sheet.proofs.writer.put_rows.Given as goal
 
 abbrev pub invariant-loop-row : goal.invariant-loop-row
