@@ -1,60 +1,86 @@
 # Proves and builds by rt, and tells how far it is. Whoever sources this has sourced lock.sh, and has set scratch to a folder of its own.
 
-# parts_of CRATE: how many crates are to be proved for one, itself among them, by crates.txt.
-parts_of() {
-  local line name todo=("$1")
+# list_parts CRATE: sets parts to the crates that are to be proved for one, itself the last, by crates.txt. A crate comes behind those that it
+# stands on, in the order in which rt proves them.
+list_parts() {
+  local line name
   local -A under=() met=()
   while IFS= read -r line || [ -n "$line" ]; do
     line=${line%%#*}
-    case $line in [A-Za-z_]*:*) under[${line%%:*}]=${line#*:} ;; esac
+    name=${line%%:*}
+    case $line in [A-Za-z_]*:*) under[${name%% *}]=${line#*:} ;; esac
   done <"$root/crates.txt"
-  while [ ${#todo[@]} -gt 0 ]; do
-    name=${todo[0]}
-    todo=("${todo[@]:1}")
-    if [ -n "${under[$name]+listed}" ] && [ -z "${met[$name]-}" ]; then
-      met[$name]=yes
-      # shellcheck disable=SC2206
-      todo+=(${under[$name]})
-    fi
-  done
-  printf '%s' "${#met[@]}"
+  parts=()
+  list_part "$1"
 }
 
-# tell_progress PARTS: copies what rt says, and tells the user of each part that is proved.
+# list_part CRATE: lists what that crate stands on and is not yet listed, and then itself. What crates.txt does not list is the kit's.
+list_part() {
+  local lower
+  [ -n "${under[$1]+listed}" ] && [ -z "${met[$1]-}" ] || return 0
+  met[$1]=yes
+  for lower in ${under[$1]}; do list_part "$lower"; done
+  parts+=("$1")
+}
+
+# parts_of CRATE: how many crates are to be proved for one, itself among them.
+parts_of() {
+  local parts
+  list_parts "$1"
+  printf '%s' "${#parts[@]}"
+}
+
+# place_of CRATE: sets place to where a crate stands among the parts, counted from 1; fails where it is none of them.
+place_of() {
+  for ((place = 1; place <= ${#parts[@]}; place++)); do
+    [ "${parts[place - 1]}" != "$1" ] || return 0
+  done
+  return 1
+}
+
+# tell_progress CRATE: copies what rt says, and tells the user of each part that is proved. rt names a crate when it begins with it, and says
+# at its end that it is proved; of a part that is built and unchanged it says nothing.
 tell_progress() {
-  local line done=0
+  local line parts place name='' begun=$SECONDS
+  list_parts "$1"
   while IFS= read -r line || [ -n "$line" ]; do
     printf '%s\n' "$line"
-    if [[ $line =~ ^rt:\ ([A-Za-z0-9_]+)\ proved\ \((.*)\)$ ]]; then
-      done=$((done + 1))
-      note "part $done of $1 proved: ${BASH_REMATCH[1]} (${BASH_REMATCH[2]})"
+    if [[ $line =~ ^rt:\ chose\ .*\ for\ ([A-Za-z0-9_]+)$ ]]; then
+      name=${BASH_REMATCH[1]} begun=$SECONDS
+    elif [[ $line == logic=proved\ * ]] && place_of "$name"; then
+      note "part $place of ${#parts[@]} proved: $name ($((SECONDS - begun)) s)"
     fi
   done
 }
 
-# rt_telling PARTS WORDS..: runs rt, with its output in scratch/rt.out and its progress told.
+# rt_telling CRATE WORDS..: 'rt WORDS' in the crate's folder, with its output in scratch/rt.out and its progress told.
 rt_telling() {
-  local parts=$1
+  local crate=$1
   shift
-  (cd "$root" && exec rt "$@") </dev/null 2>&1 | tell_progress "$parts" >"$scratch/rt.out"
+  (cd "$root/crates/$crate" && exec rt "$@") </dev/null 2>&1 | tell_progress "$crate" >"$scratch/rt.out"
   return "${PIPESTATUS[0]}"
 }
 
-# Whether an earlier build left something that this one goes on from.
-has_leftovers() { [ -n "$(find "$root/target/rlib" "$root/target/stamp" -mindepth 1 -print -quit 2>/dev/null)" ]; }
+# Whether an earlier build of one of the parts left something that this one goes on from.
+has_leftovers() {
+  local part
+  for part in "${parts[@]}"; do
+    [ -z "$(find "$root/crates/$part/out/rlib" "$root/crates/$part/out/incremental" -mindepth 1 -print -quit 2>/dev/null)" ] || return 0
+  done
+  return 1
+}
 
-# prove CRATE WORDS..: 'rt WORDS', which has to prove that crate and those under it. What an earlier build left may be half written, after a
-# power cut for one; where a build that goes on from it fails, it is removed and everything proved once more.
+# prove CRATE WORDS..: 'rt WORDS' in the crate's folder, which has to prove that crate and those under it. What an earlier build left may be
+# half written, after a power cut for one; where a build that goes on from it fails, it is removed and everything proved once more.
 prove() {
-  local parts before=no
-  parts=$(parts_of "$1")
-  shift
+  local parts part before=no
+  list_parts "$1"
   if has_leftovers; then before=yes; fi
-  in_own_group rt_telling "$parts" "$@" && return
+  in_own_group rt_telling "$@" && return
   [ "$before" = yes ] || return 1
-  note "that failed, and what an earlier build left in $root/target may be half written: removing it and proving everything once more"
-  rm -rf "$root"/target/*
-  in_own_group rt_telling "$parts" "$@"
+  note "that failed, and what an earlier build left in the folders out of $root/crates may be half written: removing it and proving everything once more"
+  for part in "${parts[@]}"; do rm -rf "$root/crates/$part/out"; done
+  in_own_group rt_telling "$@"
 }
 
 # Shows the last lines of what rt said.
