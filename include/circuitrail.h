@@ -1,6 +1,6 @@
 /*
- * Circuitrail: whether published tests show that a task sheet meets its deadlines, for C and C++. `rt lib` in the folder crates/board makes
- * the archive to link, crates/board/out/libboard.a.
+ * Circuitrail: whether published tests show that a task sheet meets its deadlines, for C and C++. `rt lib --cpu x86-64` in the folder
+ * crates/board makes the archive to link, crates/board/out/libboard.a.
  *
  * A row is a task: its cost C, its relative deadline D and its period T, in whole microseconds. Two rows with equal numbers are two rows.
  * Rows are lent as triples, an array of words, three a row, C then D then T, row 0 first. The functions whose names end in `_columns` are
