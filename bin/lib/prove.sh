@@ -41,14 +41,14 @@ place_of() {
 # tell_progress CRATE: copies what rt says, and tells the user of each part that is proved. rt names a crate when it begins with it, and says
 # at its end that it is proved; of a part that is built and unchanged it says nothing.
 tell_progress() {
-  local line parts place crate='' begun=$SECONDS
+  local line parts place crate='' begun=${EPOCHREALTIME/[.,]/}
   list_parts "$1"
   while IFS= read -r line || [ -n "$line" ]; do
     printf '%s\n' "$line"
     if [[ $line =~ ^rt:\ chose\ .*\ for\ ([A-Za-z0-9_]+)$ ]]; then
-      crate=${BASH_REMATCH[1]} begun=$SECONDS
+      crate=${BASH_REMATCH[1]} begun=${EPOCHREALTIME/[.,]/}
     elif [[ $line == logic=proved\ * ]] && place_of "$crate"; then
-      note "part $place of ${#parts[@]} proved: $crate ($((SECONDS - begun)) s)"
+      note "part $place of ${#parts[@]} proved: $crate ($(((${EPOCHREALTIME/[.,]/} - begun) / 1000000)) s)"
     fi
   done
 }
