@@ -11,6 +11,7 @@ ghost use Rattle.rows.specs.Inner.{Laid, Even, Apart};
 use rows::{Found, Refusal, first_of, row_allowed, row_count, shape_refusal};
 
 // 2 where the columns are empty or their lengths differ, 3 where they are more than 64 rows, else 0.
+#[tactic(auto, using(std::proofs::lemmas::Bool::Decides::nat_tests), unfolding(rows::specs::Layouts::shape_refusal, rows::specs::Layouts::uneven, rows::specs::Checks::count_refusal, model::specs::Sheet::columns))]
 pub fn columns_shape(costs: &[u32], deadlines: &[u32], periods: &[u32]) -> u32
     ensures { result ≡ shape_refusal (in_columns costs.now deadlines.now periods.now) }
 {

@@ -165,7 +165,7 @@ module _ (refusal : Refusal) (s : Sheet) (m method : ℕ) (R : List ℕ) (row : 
   -- Two results that a contract allows are equal.
   pub one_row_unique : (first second : OneRow) → first ≡ one_row_of refusal s m method R row → second ≡ one_row_of refusal s m method R row
       → first ≡ second
-  one_row_unique first second = one_answer
+  one_row_unique _ _ = one_answer
 
 module _ (broken : Bool) (s : Sheet) (m method : ℕ) (R : List ℕ) (row : ℕ) where
   -- The table's refusal, and what is answered to it.

@@ -75,6 +75,7 @@ pub fn found_of(bound: u32) -> Found
 }
 
 // Whether a row has its sizes: 1 ≤ C ≤ D ≤ T ≤ 1,000,000.
+#[tactic(auto, using(std::proofs::lemmas::Bool::Decides::nat_tests), unfolding(model::specs::Sheet::row_allowed))]
 pub fn row_allowed(cost: u32, deadline: u32, period: u32) -> bool
     ensures { result ≡ row_allowed cost deadline period }
 {
@@ -121,6 +122,7 @@ pub fn shape_refusal(words: &[u32]) -> u32
 }
 
 // The number of a refusal where the value is 0 or above the most allowed, else 0.
+#[tactic(auto, using(std::proofs::lemmas::Bool::Decides::nat_tests), unfolding(crate::specs::Checks::range_refusal))]
 pub fn range_refusal(value: u32, most: u32, number: u32) -> u32
     ensures { result ≡ range_refusal value most number }
 {

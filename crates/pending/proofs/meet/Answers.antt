@@ -13,7 +13,6 @@ use Rattle.refinement.proofs.Limits.{share-within}
 use Rattle.refinement.proofs.Sizes.{sizes}
 use Rattle.refinement.proofs.Kept.{kept_more, kept_settled, sum_more, sum_settled, small_share, term_numbers}
 use Rattle.pending.proofs.meet.Goals as goal
-use Rattle.pending.proofs.meet.Goals.{then-share-gt1, else-share-gt1}
 use Rattle.pending.proofs.meet.Goals.{After-rise_of-rise, In-loop-place}
 
 pub loop-place-init : goal.loop-place-init
@@ -78,7 +77,7 @@ pub overflow_add-left : goal.overflow_add-left
 overflow_add-left c = omega (arith, c.loop-place.invariant.2.rows.few)
 
 pub overflow_add-settled : goal.overflow_add-settled
-overflow_add-settled c = omega (arith, c.loop-place.invariant.2.small, inside (goal.at.overflow_add-settled c).In-loop-place, few_rows _ c.requires.0.rows, c.if-share-gt1.false)
+overflow_add-settled c = omega (arith, c.loop-place.invariant.2.small, inside (goal.at.overflow_add-settled c).In-loop-place, few_rows _ c.requires.0.rows)
 
 pub loop-place-preserved : goal.loop-place-preserved
 unfolding columns
@@ -96,13 +95,19 @@ loop-place-preserved c =
     let row = numbers (goal.at.loop-place-preserved c).After-rise_of-rise in (
       omega (arith, q.invariant.0),
       omega arith,
-      elim c.if-share-gt1.branch [ then-share-gt1 w ↦ rw (w.settled-is, w.left-is, put) (kept_more q.others q.left own period ahead taken rise rows place q.place q.settled q.invariant.2 row) | else-share-gt1 w ↦ rw (w.settled-is, w.left-is, put) (kept_settled q.others q.left own period ahead taken rise rows place q.place q.settled q.invariant.2 row.small_share) ],
+      grind (
+        arith,
+        kept_more q.others q.left own period ahead taken rise rows place q.place q.settled q.invariant.2 row,
+        kept_settled q.others q.left own period ahead taken rise rows place q.place q.settled q.invariant.2 row.small_share,
+      ),
       λ x cap window some-cap.
-          elim c.if-share-gt1.branch [
-            | then-share-gt1 w ↦ rw (w.settled-is, w.left-is, put) (omega (arith, sum_more q.others q.left own period ahead taken rise rows place q.settled x cap, gathered (goal.at.loop-place-preserved c).After-rise_of-rise x cap window some-cap))
-            | else-share-gt1 w ↦ rw (w.settled-is, w.left-is, put)
-                (omega (arith, sum_settled q.others q.left own period ahead taken rise rows place q.settled x cap (small_share own period ahead taken x cap row.sizes.some_cost window some-cap (omega (arith, w.if-share-gt1.false))), gathered (goal.at.loop-place-preserved c).After-rise_of-rise x cap window some-cap))
-          ],
+          grind (
+            arith,
+            gathered (goal.at.loop-place-preserved c).After-rise_of-rise x cap window some-cap,
+            sum_more q.others q.left own period ahead taken rise rows place q.settled x cap,
+            sum_settled q.others q.left own period ahead taken rise rows place q.settled x cap,
+            small_share own period ahead taken x cap row.sizes.some_cost window some-cap,
+          ),
     )
 
 pub shape_of-others : goal.shape_of-others
