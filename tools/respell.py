@@ -1,10 +1,10 @@
 #!/usr/bin/env python3
-"""tools/respell.py: run once behind /opt/rattle/port/port.py, brings this repository's own definitions and lemmas to today's spelling.
+"""tools/respell.py: run once behind the Rattle kit's port/port.py, brings this repository's own definitions and lemmas to today's spelling.
 
 Words are in snake case, so `sheetOf` is `sheet_of`; types and modules keep their capitals. In a lemma's name a dash joins two words that are
 names themselves, of a definition or of the library, and every other dash is an underscore. Functions of src/, exported C names, strings and
-inputs keep theirs. Two names that would fall together are told, and then nothing is written. What was respelled stands in tools/respelled.txt, and where that is
-there it decides, so that an older tree is respelled alike.
+inputs keep theirs. Two names that would fall together are told, and then nothing is written. What was respelled stands in
+tools/respelled.txt, and where that is there it decides, so that an older tree is respelled alike.
 """
 import glob
 import os

@@ -1,5 +1,5 @@
 #!/usr/bin/env python3
-"""tools/turn_edits.py: run once behind /opt/rattle/port/port.py and tools/respell.py, brings crates/*/must-fail/*.edit to today's spelling.
+"""tools/turn_edits.py: run once behind the Rattle kit's port/port.py and tools/respell.py, brings crates/*/must-fail/*.edit to today's spelling.
 
     python3 tools/turn_edits.py            turns each edit that reads as it did before the port
     python3 tools/turn_edits.py --check    turns nothing: says of each edit whether it fits today's files, and its names are in scope
