@@ -1,5 +1,6 @@
 # One at a time in a checkout: whoever builds, tests or measures holds the lock on the file .building, and the others wait and say so.
-# The file stands beside crates/, in whose folders rt has locks of its own. Whoever sources this has set root, and has a function note that speaks to its user.
+# The file stands beside crates/, in whose folders rt has locks of its own. Whoever sources this has set root, and has a function note that
+# speaks to its user.
 
 # The process that is waited for, with all that it started in its group; empty where there is none.
 group=
