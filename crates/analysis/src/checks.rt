@@ -1,121 +1,72 @@
-// The checks of the entries.
-ghost use Rattle.std.specs.Prelude.{◌≡◌, ◌≤◌, ◌<◌, length};
+// The checks of the one-row question, behind those of the rows' shape.
+ghost use Rattle.std.specs.Prelude.{◌≡◌, ◌<◌, IfOk, length};
 ghost use Rattle.laws.specs.Bits.{every};
-ghost use Rattle.model.specs.Sheet.{columns};
-ghost use Rattle.rows.specs.Inner.{Even};
-ghost use Rattle.rows.specs.Layouts.{in_columns};
+ghost use Rattle.columns.specs.Rows.{sheet_in, lent};
+ghost use Rattle.refusals.specs.Told.{said};
 ghost use Rattle.refinement.specs.Question.{bound_allowed, question_allowed, one_row_refusal_of};
-ghost use Rattle.refinement.specs.Refinement.{refine_refusal_in};
+ghost use Rattle.refinement.specs.Asked.{AskedOf};
 
-use layout::columns_refusal;
-use rows::{Refusal, first_of, method_refusal, processors_refusal, room_refusal};
+use bounded::Bounded;
+use columns::{Columns, check_sizes};
+use refinement::Asked;
+use refusals::Refusal;
+use rows::Method;
+use table::check_processors;
 
 // Whether the bound of a row lies from its cost to its deadline.
-pub(crate) fn bound_allowed(
-    costs: &[u32],
-    deadlines: &[u32],
-    periods: &[u32],
-    bounds: &[u32],
-    row: u32,
-) -> bool
-    requires { (row < length bounds.now) × (row < (columns costs.now deadlines.now periods.now).rows) × Even costs.now deadlines.now periods.now }
-    ensures { result ≡ bound_allowed (columns costs.now deadlines.now periods.now) bounds.now row }
+#[tactic(auto, using(std::proofs::lemmas::Bool::Decides::nat_tests), unfolding(refinement::specs::Question::bound_allowed))]
+pub(crate) fn bound_allowed(rows: &Columns, bounds: &[u32], row: u32) -> bool
+    requires { (row < length bounds.now) × (row < (sheet_in rows.now).rows) }
+    ensures { result ≡ bound_allowed (sheet_in rows.now) bounds.now row }
 {
     let bound = bounds[row as usize];
-    if bound < costs[row as usize] {
-        return false;
-    }
-    bound <= deadlines[row as usize]
+    rows.cost(row) <= bound && bound <= rows.deadline(row)
 }
 
 // Whether each of the bounds lies from its row's cost to its deadline.
-pub(crate) fn bounds_allowed(
-    costs: &[u32],
-    deadlines: &[u32],
-    periods: &[u32],
-    bounds: &[u32],
-    count: u32,
-) -> bool
-    requires { (length bounds.now ≡ count) × (count ≡ (columns costs.now deadlines.now periods.now).rows) × Even costs.now deadlines.now periods.now }
-    ensures { result ≡ every (bound_allowed (columns costs.now deadlines.now periods.now) bounds.now) count }
+pub(crate) fn bounds_allowed(rows: &Columns, bounds: &[u32]) -> bool
+    requires { length bounds.now ≡ (sheet_in rows.now).rows }
+    ensures { result ≡ every (bound_allowed (sheet_in rows.now) bounds.now) (sheet_in rows.now).rows }
 {
-    let mut row = 0;
-    while row < count {
-        if !bound_allowed(costs, deadlines, periods, bounds, row) {
-            return false;
-        }
-        row += 1;
-    }
-    true
+    (0..rows.count()).all(|row| bound_allowed(rows, bounds, row))
 }
 
 // Whether the row number and the bounds fit the sheet.
-pub(crate) fn question_allowed(
-    costs: &[u32],
-    deadlines: &[u32],
-    periods: &[u32],
-    bounds: &[u32],
-    row: u32,
-) -> bool
-    requires { ((columns costs.now deadlines.now periods.now).rows ≤ 64) × Even costs.now deadlines.now periods.now }
-    ensures { result ≡ question_allowed (columns costs.now deadlines.now periods.now) bounds.now row }
+#[tactic(auto, using(std::proofs::lemmas::Bool::Decides::nat_tests), unfolding(refinement::specs::Question::question_allowed))]
+pub(crate) fn question_allowed(rows: &Columns, bounds: &[u32], row: u32) -> bool
+    ensures { result ≡ question_allowed (sheet_in rows.now) bounds.now row }
 {
-    let count = costs.len() as u32;
-    if count <= row {
+    if rows.count() <= row {
         return false;
     }
-    if bounds.len() != count as usize {
+    if bounds.len() != rows.count() as usize {
         return false;
     }
-    bounds_allowed(costs, deadlines, periods, bounds, count)
+    bounds_allowed(rows, bounds)
 }
 
-// The refusal of the one-row question, in number order: 2, 3, 4, 5, 8, 9.
-pub(crate) fn question_refusal(
-    costs: &[u32],
-    deadlines: &[u32],
-    periods: &[u32],
+// What a question asks of the rows under its bounds, with its checks in number order: 4, 5, 8, 9.
+// The method is a number up to here, where check 5 is made: a Method would ask more of whoever calls an entry.
+pub(crate) fn check_question<'a>(
+    rows: &Columns<'a>,
     processors: u32,
     method: u32,
-    bounds: &[u32],
+    bounds: &'a [u32],
     row: u32,
-) -> Refusal
-    ensures { let lent = in_columns costs.now deadlines.now periods.now in result ≡ one_row_refusal_of lent.broken lent.sheet processors method bounds.now row }
+) -> Result<Bounded<'a>, Refusal>
+    ensures refused { said result ≡ one_row_refusal_of (lent rows.now).broken (sheet_in rows.now) processors method bounds.now row }
+    ensures asked { IfOk result (λ given. AskedOf rows.now processors method given.asked × (given.bounds.now ≡ bounds.now)) }
 {
-    let four = processors_refusal(processors);
-    let five = method_refusal(method);
-    let first = columns_refusal(costs, deadlines, periods, first_of(four, five));
-    let number = first.number;
-    if number != 0 {
-        return first;
+    check_processors(processors)?;
+    let method = Method::try_from(method)?;
+    check_sizes(rows)?;
+    if !question_allowed(rows, bounds, row) {
+        return Err(Refusal::Question);
     }
-    if question_allowed(costs, deadlines, periods, bounds, row) {
-        Refusal {
-            number: 0,
-            place: 0,
-        }
-    } else {
-        Refusal {
-            number: 9,
-            place: 0,
-        }
-    }
-}
-
-// The refusal of a refinement, in number order: 2, 3, 4, 5, 7, 8.
-pub(crate) fn refine_refusal(
-    costs: &[u32],
-    deadlines: &[u32],
-    periods: &[u32],
-    processors: u32,
-    method: u32,
-    room: usize,
-) -> Refusal
-    ensures { result ≡ refine_refusal_in (in_columns costs.now deadlines.now periods.now) processors method room }
-{
-    let five = method_refusal(method);
-    let seven = room_refusal(room, costs.len());
-    let later = first_of(five, seven);
-    let four = processors_refusal(processors);
-    columns_refusal(costs, deadlines, periods, first_of(four, later))
+    let asked = Asked {
+        rows: *rows,
+        processors,
+        method,
+    };
+    Ok(Bounded { asked, bounds })
 }

@@ -10,19 +10,19 @@ use Rattle.model.specs.Sheet.{Sheet}
 use Rattle.model.specs.Answer.{method_of}
 use Rattle.model.proofs.Methods.{answer_regular}
 use Rattle.model.proofs.Sheet.{row_sized}
-use Rattle.rows.specs.declared.Found.{Found}
-use Rattle.rows.specs.declared.Found.TheVariants.{At, Nowhere}
-use Rattle.rows.specs.declared.Refusal.{Refusal}
+use Rattle.rows.specs.Words.{Found}
+use Rattle.std.specs.declared.option.Option.TheVariants.{Some, None}
+use Rattle.refusals.specs.Refusals.{Refusal}
 use Rattle.rows.specs.Words.{bound_or, bound_number}
 use Rattle.rows.specs.Layouts.{Lent}
 use Rattle.rows.proofs.Words.{found_some}
-use Rattle.refinement.specs.declared.OneRow.{OneRow}
+use Rattle.refinement.specs.Question.{OneRow}
 use Rattle.refinement.specs.Question.{one_row_refusal_of, one_row_of, one_row_in}
 use Rattle.refinement.proofs.Question.{asked, one_row_answered, one_row_refused, one_row_keeps}
-use Rattle.verdict.specs.declared.Answer.{Answer}
+use Rattle.verdict.specs.OneProcessor.{Answer}
 use Rattle.verdict.specs.OneProcessor.{one_processor_in}
 use Rattle.verdict.proofs.Promised.{numbers_fix, refused_zeros, keeps}
-use Rattle.quick_look.specs.declared.DensityAnswer.{DensityAnswer}
+use Rattle.quick_look.specs.DensityTest.{DensityAnswer}
 use Rattle.quick_look.specs.DensityTest.{density_in}
 use Rattle.quick_look.proofs.Promised.{reply_fixed, refused-zero}
 use Rattle.board.specs.declared.RowNumbers.{RowNumbers}
@@ -32,7 +32,7 @@ use Rattle.board.specs.Face.{row_in_numbers, outcome_in_numbers, density_in_numb
 
 -- A bound that is answered is not 0.
 abbrev pub Positive : Found → Type 0
-Positive found = (bound : ℕ) → found ≡ At bound → 1 ≤ bound
+Positive found = (bound : ℕ) → found ≡ Some bound → 1 ≤ bound
 
 -- The entry answers no bound of 0.
 pub bound_positive : (lent : Lent) (m method : ℕ) (R : List ℕ) (row : ℕ) → Positive (one_row_in lent m method R row).answer
@@ -58,10 +58,10 @@ bound_positive lent m method R row = decided (ℕ_discrete refusal.number 0)
 -- So the number of an answer fixes it.
 bound_fixed : (f g : Found) → Positive f → Positive g → bound_number f ≡ bound_number g → f ≡ g
 unfolding bound_or
-bound_fixed (At b) (At c) some_bound other_bound same = ap At same
-bound_fixed (At b) Nowhere some_bound other_bound same = absurd (omega (arith, some_bound b refl))
-bound_fixed Nowhere (At c) some_bound other_bound same = absurd (omega (arith, other_bound c refl))
-bound_fixed Nowhere Nowhere some_bound other_bound same = refl
+bound_fixed (Some b) (Some c) some_bound other_bound same = ap Some same
+bound_fixed (Some b) None some_bound other_bound same = absurd (omega (arith, some_bound b refl))
+bound_fixed None (Some c) some_bound other_bound same = absurd (omega (arith, other_bound c refl))
+bound_fixed None None some_bound other_bound same = refl
 
 -- Answers to the one-row question that are told in the same numbers are the same.
 pub row_fixed : (r q : OneRow) → Positive r.answer → Positive q.answer → row_in_numbers r ≡ row_in_numbers q → r ≡ q

@@ -1,9 +1,9 @@
 -- The C face: an answer that holds an enum is told in numbers alone. Refusal and place stay what they are.
-use Rattle.refinement.specs.declared.OneRow.{OneRow}
+use Rattle.refinement.specs.Question.{OneRow}
 use Rattle.rows.specs.Words.{bound_number}
-use Rattle.verdict.specs.declared.Answer.{Answer}
+use Rattle.verdict.specs.OneProcessor.{Answer}
 use Rattle.verdict.specs.OneProcessor.{outcome_number, outcome_value}
-use Rattle.quick_look.specs.declared.DensityAnswer.{DensityAnswer}
+use Rattle.quick_look.specs.DensityTest.{DensityAnswer}
 use Rattle.quick_look.specs.DensityTest.{reply_number}
 use Rattle.board.specs.declared.RowNumbers.{RowNumbers}
 use Rattle.board.specs.declared.OutcomeNumbers.{OutcomeNumbers}

@@ -1,4 +1,5 @@
 // The C face: one exported function for each public entry, on numbers and lent slices. Nothing is worked out here.
+// Triples and columns, rounds and at once, the method by its number, three lists for a sheet: names and parameters that C has.
 #![tactic(auto)]
 
 mod cases;
@@ -16,12 +17,8 @@ ghost use Rattle.pieces.specs.Ending.{ended, words_after_end};
 ghost use Rattle.report.specs.Result.{write_result_in, result_after_in, write_result, result_after, answer_sheet, answer_after};
 ghost use Rattle.board.specs.Face.{row_in_numbers, outcome_in_numbers, density_in_numbers};
 
-use analysis::{
-    one_row, one_row_columns, refine_at_once, refine_at_once_columns, refine_rounds,
-    refine_rounds_columns,
-};
+use analysis::{AtOnce, Rounds, one_row, one_row_columns, refine, refine_columns};
 use cable::{end_sheet, feed_piece, start_sheet};
-use cases::{density_numbers, outcome_numbers, row_numbers};
 use demand::{one_processor, one_processor_columns};
 use density::{density, density_columns};
 use grammar::{Read, Written};
@@ -31,6 +28,7 @@ use result::{answer_sheet, write_result, write_result_columns};
 use sheet::{read_sheet, write_sheet};
 
 // The answer to the one-row question in numbers: the bound is 0 where there is none.
+// Numbers for the cases: C is given this.
 #[repr(C)]
 #[derive(Clone, Copy)]
 pub struct RowNumbers {
@@ -40,6 +38,7 @@ pub struct RowNumbers {
 }
 
 // The answer of the exact test in numbers: outcome 0 is undecided, 1 a miss, 2 fits; the length is 0, the least that misses, or the busy length.
+// Numbers for the cases: C is given this.
 #[repr(C)]
 #[derive(Clone, Copy)]
 pub struct OutcomeNumbers {
@@ -50,6 +49,7 @@ pub struct OutcomeNumbers {
 }
 
 // The answer of the density test in numbers: 0 is unsure, 1 yes, 2 no.
+// Numbers for the cases: C is given this.
 #[repr(C)]
 #[derive(Clone, Copy)]
 pub struct DensityNumbers {
@@ -69,7 +69,7 @@ pub extern "C" fn circuitrail_one_row(
 ) -> RowNumbers
     ensures { result ≡ row_in_numbers (one_row words.now processors method bounds.now row) }
 {
-    row_numbers(one_row(words, processors, method, bounds, row))
+    RowNumbers::from(one_row(words, processors, method, bounds, row))
 }
 
 // The same of rows in columns.
@@ -85,7 +85,7 @@ pub extern "C" fn circuitrail_one_row_columns(
 ) -> RowNumbers
     ensures { result ≡ row_in_numbers (one_row_in (in_columns costs.now deadlines.now periods.now) processors method bounds.now row) }
 {
-    row_numbers(one_row_columns(costs, deadlines, periods, processors, method, bounds, row))
+    RowNumbers::from(one_row_columns(costs, deadlines, periods, processors, method, bounds, row))
 }
 
 // The whole sheet refined by the rounds engine, its final bounds written to the front of the lent words.
@@ -99,7 +99,7 @@ pub extern "C" fn circuitrail_refine_rounds(
     ensures answered { result ≡ refined rounds words.now processors method (length bounds.old) }
     ensures written { bounds.new ≡ refined_words rounds words.now processors method bounds.old }
 {
-    refine_rounds(words, processors, method, bounds)
+    Refined::from(refine(&Rounds, words, processors, method, bounds))
 }
 
 // The same of rows in columns.
@@ -115,7 +115,9 @@ pub extern "C" fn circuitrail_refine_rounds_columns(
     ensures answered { result ≡ refined_in rounds (in_columns costs.now deadlines.now periods.now) processors method (length bounds.old) }
     ensures written { bounds.new ≡ refined_words_in rounds (in_columns costs.now deadlines.now periods.now) processors method bounds.old }
 {
-    refine_rounds_columns(costs, deadlines, periods, processors, method, bounds)
+    Refined::from(refine_columns(
+        &Rounds, costs, deadlines, periods, processors, method, bounds,
+    ))
 }
 
 // The same by the at-once engine.
@@ -129,7 +131,7 @@ pub extern "C" fn circuitrail_refine_at_once(
     ensures answered { result ≡ refined at_once words.now processors method (length bounds.old) }
     ensures written { bounds.new ≡ refined_words at_once words.now processors method bounds.old }
 {
-    refine_at_once(words, processors, method, bounds)
+    Refined::from(refine(&AtOnce, words, processors, method, bounds))
 }
 
 // The same of rows in columns.
@@ -145,7 +147,9 @@ pub extern "C" fn circuitrail_refine_at_once_columns(
     ensures answered { result ≡ refined_in at_once (in_columns costs.now deadlines.now periods.now) processors method (length bounds.old) }
     ensures written { bounds.new ≡ refined_words_in at_once (in_columns costs.now deadlines.now periods.now) processors method bounds.old }
 {
-    refine_at_once_columns(costs, deadlines, periods, processors, method, bounds)
+    Refined::from(refine_columns(
+        &AtOnce, costs, deadlines, periods, processors, method, bounds,
+    ))
 }
 
 // Whether the rows fit on one processor, as far as the horizon shows.
@@ -153,7 +157,7 @@ pub extern "C" fn circuitrail_refine_at_once_columns(
 pub extern "C" fn circuitrail_one_processor(words: &[u32], horizon: u32) -> OutcomeNumbers
     ensures { result ≡ outcome_in_numbers (one_processor words.now horizon) }
 {
-    outcome_numbers(one_processor(words, horizon))
+    OutcomeNumbers::from(one_processor(words, horizon))
 }
 
 // The same of rows in columns.
@@ -166,7 +170,7 @@ pub extern "C" fn circuitrail_one_processor_columns(
 ) -> OutcomeNumbers
     ensures { result ≡ outcome_in_numbers (one_processor_in (in_columns costs.now deadlines.now periods.now) horizon) }
 {
-    outcome_numbers(one_processor_columns(costs, deadlines, periods, horizon))
+    OutcomeNumbers::from(one_processor_columns(costs, deadlines, periods, horizon))
 }
 
 // Whether the densities of the rows meet the test.
@@ -174,7 +178,7 @@ pub extern "C" fn circuitrail_one_processor_columns(
 pub extern "C" fn circuitrail_density(words: &[u32], processors: u32) -> DensityNumbers
     ensures { result ≡ density_in_numbers (density_test words.now processors) }
 {
-    density_numbers(density(words, processors))
+    DensityNumbers::from(density(words, processors))
 }
 
 // The same of rows in columns.
@@ -187,7 +191,7 @@ pub extern "C" fn circuitrail_density_columns(
 ) -> DensityNumbers
     ensures { result ≡ density_in_numbers (density_in (in_columns costs.now deadlines.now periods.now) processors) }
 {
-    density_numbers(density_columns(costs, deadlines, periods, processors))
+    DensityNumbers::from(density_columns(costs, deadlines, periods, processors))
 }
 
 // Reads a task sheet, its rows' words written to the front of the lent words.
@@ -196,7 +200,7 @@ pub extern "C" fn circuitrail_read_sheet(bytes: &[u8], words: &mut [u32]) -> Rea
     ensures answered { result ≡ read_sheet bytes.now (length words.old) }
     ensures written { words.new ≡ words_after bytes.now words.old }
 {
-    read_sheet(bytes, words)
+    Read::from(read_sheet(bytes, words))
 }
 
 // The state of a sheet that comes in pieces, before the first of them.
@@ -232,7 +236,7 @@ pub extern "C" fn circuitrail_write_sheet(words: &[u32], processors: u32, out: &
     ensures answered { result ≡ write_sheet words.now processors (length out.old) }
     ensures written { out.new ≡ bytes_after words.now processors out.old }
 {
-    write_sheet(words, processors, out)
+    Written::from(write_sheet(words, processors, out))
 }
 
 // Writes the result sheet of rows to the front of the lent bytes.
@@ -246,7 +250,7 @@ pub extern "C" fn circuitrail_write_result(
     ensures answered { result ≡ write_result words.now processors method (length out.old) }
     ensures written { out.new ≡ result_after words.now processors method out.old }
 {
-    write_result(words, processors, method, out)
+    Written::from(write_result(words, processors, method, out))
 }
 
 // The same of rows in columns.
@@ -262,7 +266,7 @@ pub extern "C" fn circuitrail_write_result_columns(
     ensures answered { result ≡ write_result_in (in_columns costs.now deadlines.now periods.now) processors method (length out.old) }
     ensures written { out.new ≡ result_after_in (in_columns costs.now deadlines.now periods.now) processors method out.old }
 {
-    write_result_columns(costs, deadlines, periods, processors, method, out)
+    Written::from(write_result_columns(costs, deadlines, periods, processors, method, out))
 }
 
 // Writes the whole answer to a sheet's bytes to the front of the lent bytes.
@@ -271,5 +275,5 @@ pub extern "C" fn circuitrail_answer_sheet(bytes: &[u8], out: &mut [u8]) -> Writ
     ensures answered { result ≡ answer_sheet bytes.now (length out.old) }
     ensures written { out.new ≡ answer_after bytes.now out.old }
 {
-    answer_sheet(bytes, out)
+    Written::from(answer_sheet(bytes, out))
 }

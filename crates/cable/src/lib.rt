@@ -7,7 +7,7 @@ ghost use Rattle.pieces.specs.Ending.{feeding, ending, words_after_end};
 
 use grammar::Read;
 use judging::finish;
-use pieces::{Ended, Fed, Given, Pieces, Reached};
+use pieces::{Ended, Fed, Pieces, Reached};
 use taking::take_piece;
 
 // The state before the first piece.
@@ -36,25 +36,22 @@ pub fn start_sheet() -> Pieces
 pub fn feed_piece(state: Pieces, bytes: &[u8]) -> Fed
     ensures { result ≡ feeding state bytes.now }
 {
-    let answer = state.answer;
+    // A number, as C holds it.
     if state.ended != 0 {
         return Fed {
-            state: state,
-            answer: Given::Answer(answer),
+            state,
+            answer: Some(state.answer),
         };
     }
-    let start = state.reached;
     let mut words = state.words;
-    let reached = take_piece(start, bytes, &mut words);
-    let fed = Pieces {
-        reached: reached,
-        words: words,
-        ended: 0,
-        answer: answer,
-    };
+    let reached = take_piece(state.reached, bytes, &mut words);
     Fed {
-        state: fed,
-        answer: Given::NotYet,
+        state: Pieces {
+            reached,
+            words,
+            ..state
+        },
+        answer: None,
     }
 }
 
@@ -63,24 +60,20 @@ pub fn end_sheet(state: Pieces, words: &mut [u32]) -> Ended
     ensures value { result ≡ ending state (length words.old) }
     ensures words_left { words.new ≡ words_after_end state words.old }
 {
-    let given = state.answer;
+    // A number, as C holds it.
     if state.ended != 0 {
         return Ended {
-            state: state,
-            answer: given,
+            state,
+            answer: state.answer,
         };
     }
-    let reached = state.reached;
-    let read = state.words;
-    let answer = finish(reached, &read, words);
-    let ended = Pieces {
-        reached: reached,
-        words: read,
-        ended: 1,
-        answer: answer,
-    };
+    let answer = Read::from(finish(state.reached, &state.words, words));
     Ended {
-        state: ended,
-        answer: answer,
+        state: Pieces {
+            ended: 1,
+            answer,
+            ..state
+        },
+        answer,
     }
 }

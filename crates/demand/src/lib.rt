@@ -1,67 +1,62 @@
 // The exact test for one processor, on rows in either layout.
 #![tactic(auto)]
 
-mod climb;
+mod busy;
 mod lengths;
 
 ghost use Rattle.std.specs.Prelude.{◌≡◌};
+ghost use Rattle.columns.specs.Rows.{lent};
 ghost use Rattle.rows.specs.Layouts.{in_columns};
+ghost use Rattle.refusals.specs.Refusals.{refused};
+ghost use Rattle.refusals.specs.Told.{said};
 ghost use Rattle.verdict.specs.OneProcessor.{horizon_refusal, one_processor_in, one_processor};
+ghost use Rattle.verdict.specs.Told.{outcome_said};
 
-use climb::busy_length;
-use layout::{columns_refusal, take_apart};
+use busy::busy_length;
+use columns::{Checked, Columns};
+use layout::{Apart, lent_columns};
 use lengths::outcome_within;
-use rows::{range_refusal, row_count};
-use verdict::{Answer, Outcome};
+use refusals::Refusal;
+use table::check_range;
+use verdict::Outcome;
 
-// 6 where the horizon is 0 or above 16,777,216, else 0.
-pub fn horizon_refusal(horizon: u32) -> u32
-    ensures { result ≡ horizon_refusal horizon }
+// 6 where the horizon is 0 or above 16,777,216.
+#[tactic(auto, using(std::proofs::lemmas::Bool::Decides::nat_tests), unfolding(rows::specs::Checks::range_refusal, verdict::specs::OneProcessor::horizon_refusal, model::specs::Sheet::horizon_allowed))]
+pub fn check_horizon(horizon: u32) -> Result<(), Refusal>
+    ensures { said result ≡ refused (horizon_refusal horizon) 0 }
 {
-    range_refusal(horizon, 16_777_216, 6)
+    check_range(horizon, 16_777_216, Refusal::Limit)
+}
+
+// Behind the checks of the rows' shape, with the other checks in number order: 6, 8.
+fn tested(rows: &Columns, horizon: u32) -> Result<Outcome, Refusal>
+    ensures { outcome_said result ≡ one_processor_in (lent rows.now) horizon }
+{
+    check_horizon(horizon)?;
+    let checked = Checked::try_from(rows)?;
+    let busy = busy_length(checked, horizon);
+    Ok(outcome_within(checked, horizon, busy))
 }
 
 // Whether the rows in columns fit on one processor, as far as the horizon shows.
+// Beside the entry on triples, and not one over both: C has a function for each, and so has each promise.
 pub fn one_processor_columns(
     costs: &[u32],
     deadlines: &[u32],
     periods: &[u32],
     horizon: u32,
-) -> Answer
-    ensures { result ≡ one_processor_in (in_columns costs.now deadlines.now periods.now) horizon }
+) -> Result<Outcome, Refusal>
+    ensures { outcome_said result ≡ one_processor_in (in_columns costs.now deadlines.now periods.now) horizon }
 {
-    let checked = columns_refusal(costs, deadlines, periods, horizon_refusal(horizon));
-    if checked.number != 0 {
-        return Answer {
-            refusal: checked.number,
-            place: checked.place,
-            outcome: Outcome::Undecided,
-        };
-    }
-    let count = costs.len() as u32;
-    let busy = busy_length(costs, deadlines, periods, count, horizon);
-    Answer {
-        refusal: 0,
-        place: 0,
-        outcome: outcome_within(costs, deadlines, periods, count, horizon, busy),
-    }
+    let rows = lent_columns(costs, deadlines, periods)?;
+    tested(&rows, horizon)
 }
 
-// The same for rows in triples, which are taken apart into columns.
-pub fn one_processor(words: &[u32], horizon: u32) -> Answer
-    ensures { result ≡ one_processor words.now horizon }
+// The same of rows in triples, which are taken apart into columns.
+pub fn one_processor(words: &[u32], horizon: u32) -> Result<Outcome, Refusal>
+    ensures { outcome_said result ≡ one_processor words.now horizon }
 {
-    let mut costs = [0u32; 64];
-    let mut deadlines = [0u32; 64];
-    let mut periods = [0u32; 64];
-    let shape = take_apart(words, &mut costs, &mut deadlines, &mut periods);
-    if shape != 0 {
-        return Answer {
-            refusal: shape,
-            place: 0,
-            outcome: Outcome::Undecided,
-        };
-    }
-    let end = row_count(words);
-    one_processor_columns(&costs[..end], &deadlines[..end], &periods[..end], horizon)
+    let mut apart = Apart::new();
+    let rows = apart.columns(words)?;
+    tested(&rows, horizon)
 }

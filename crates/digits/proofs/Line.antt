@@ -3,7 +3,7 @@ use mathlib.Core.Path.{◌≡◌, refl, ◌∙◌, ap}
 use mathlib.Core.List.{List, [], ◌∷◌, ◌++◌, map}
 use Prim.Native.Nat.{ℕ, suc, ◌+◌, ◌≤◌, ◌<◌}
 use native.Mathlib.Omega.{arith}
-use lib.ListN.{length, get_or, drop, set, length-append, length-drop, length-set, drop_of_length-le}
+use lib.ListN.{length, get_or, drop, set, length-append, length-drop, drop_of_length-le}
 use lib.Seq.{drop-cons, set_at}
 use Rattle.laws.proofs.Cuts.{mapped_append}
 use Rattle.digits.specs.Digits.{upper, digits, with_digits}
@@ -41,12 +41,6 @@ pub end_inside : {before front now : List ℕ} {at : ℕ} → Begun before front
 end_inside {before} {front} {now} {at} begun full =
     let size : length front ≡ at = begun.size in
     rw (begun.stands, length-append front (drop at before), length-drop at before) (omega arith)
-
-pub ended-length : {before front now : List ℕ} {at : ℕ} (byte : ℕ) → Begun before front at now → length before ≡ at + 1
-    → length (set now at byte) ≡ length before
-ended-length {before} {front} {now} {at} byte begun full =
-    let size : length front ≡ at = begun.size in
-    length-set now at byte ∙ rw (begun.stands, length-append front (drop at before), length-drop at before) (omega arith)
 
 -- The last byte ends the line.
 pub line-ended : {before front now : List ℕ} {at : ℕ} (byte : ℕ) → Begun before front at now → length before ≡ at + 1

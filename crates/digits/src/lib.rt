@@ -7,6 +7,7 @@ ghost use Rattle.digits.specs.Digits.{digit_value, digit_byte, number, with_digi
 mod numbers;
 
 // The value of a digit byte of either case; 16 for a byte that is no digit.
+// 16 and no Option: what is promised of every byte is one number, which the laws of digits add up (digits, Digits).
 pub fn digit_value(byte: u8) -> u8
     ensures { result ≡ digit_value byte }
 {
@@ -31,6 +32,7 @@ pub fn digit_byte(value: u8) -> u8
 }
 
 // The number that two digits at an offset say.
+// Two functions and not one for any count: a public function asks for nothing, and the number of more than six digits need not fit.
 pub fn two_digits(bytes: &[u8], at: u32) -> u32
     ensures { result ≡ number bytes.now at 2 }
 {

@@ -1,81 +1,47 @@
 // The two engines, which repeat passes until one changes nothing.
 #![tactic(auto)]
 
-ghost use Rattle.std.specs.Prelude.{◌≡◌, ◌+◌, ◌≤◌, ◌<◌, length};
+mod engine;
+
+ghost use Rattle.std.specs.Prelude.{◌≡◌, length};
 ghost use Rattle.model.specs.Refine.{round, rounds, at_once};
-ghost use Rattle.model.specs.Sheet.{columns, Allowed};
-ghost use Rattle.rows.specs.Inner.{Even};
-ghost use Rattle.refinement.specs.Refinement.{ask_of, final_bounds, final_marks};
-ghost use Rattle.refinement.specs.Inner.{Running, AfterPass, Copied};
+ghost use Rattle.refinement.specs.Asked.{sheet, ask, end_bounds, end_marks, Underway};
+ghost use Rattle.refinement.specs.Inner.{AfterPass};
 
-use ray::{hasten, note_drops};
-use turns::{Tally, fill_turns, sweep_rows};
+use bounded::Bounded;
+pub use engine::{AtOnce, Engine, Rounds};
+use pending::Space;
+use ray::{Drops, hasten, note_drops};
+use refinement::Asked;
+use turns::{fill_turns, sweep_rows};
 
-// Copies new bounds over the old ones, and tells whether any differs.
-pub fn copy_back(next: &[u32], bounds: &mut [u32], count: u32) -> bool
-    requires { (length next.now ≡ count) × (length bounds.old ≡ count) }
-    ensures { Copied bounds.old bounds.new next.now result }
+// A round over the bounds themselves, by way of the space lent for it. It tells the marks where it changes no bound.
+pub fn round_rows(asked: &Asked, bounds: &mut [u32], next: &mut [u32]) -> Option<u64>
+    requires { Underway asked.now bounds.old × (length next.old ≡ (sheet asked.now).rows) }
+    ensures told { let s = sheet asked.now in AfterPass s (ask asked.now) (round s (ask asked.now)) bounds.old bounds.new result }
+    ensures kept { length next.new ≡ (sheet asked.now).rows }
 {
-    let mut moved = false;
-    let mut row = 0;
-    while row < count {
-        let new = next[row as usize];
-        if bounds[row as usize] != new {
-            moved = true;
-        }
-        bounds[row as usize] = new;
-        row += 1;
+    let given = Bounded {
+        asked: *asked,
+        bounds,
+    };
+    let seen = fill_turns(&given, next);
+    if &*bounds == &*next {
+        return Some(seen);
     }
-    moved
-}
-
-// A round over the bounds themselves, by way of the space lent for it.
-pub fn round_rows(
-    costs: &[u32],
-    deadlines: &[u32],
-    periods: &[u32],
-    bounds: &mut [u32],
-    next: &mut [u32],
-    processors: u32,
-    method: u32,
-    count: u32,
-) -> Tally
-    requires { let s = columns costs.now deadlines.now periods.now in Running s bounds.old count processors method × (length next.old ≡ count) × Even costs.now deadlines.now periods.now }
-    ensures told { let s = columns costs.now deadlines.now periods.now in AfterPass s (ask_of s processors method) (round s (ask_of s processors method)) bounds.old bounds.new result.moved result.seen }
-    ensures kept { length next.new ≡ count }
-{
-    let seen = fill_turns(
-        costs, deadlines, periods, bounds, processors, method, count, next,
-    );
-    let moved = copy_back(next, bounds, count);
-    Tally {
-        moved: moved,
-        seen: seen,
-    }
+    bounds.copy_from_slice(next);
+    None
 }
 
 // The rounds engine: round after round, until one changes nothing; the marks are those of the last.
-pub fn settle_rounds(
-    costs: &[u32],
-    deadlines: &[u32],
-    periods: &[u32],
-    bounds: &mut [u32],
-    next: &mut [u32],
-    processors: u32,
-    method: u32,
-    count: u32,
-) -> u64
-    requires { let s = columns costs.now deadlines.now periods.now in Running s bounds.old count processors method × (length next.old ≡ count) × Even costs.now deadlines.now periods.now }
-    ensures seen { result ≡ final_marks rounds (columns costs.now deadlines.now periods.now) processors method }
-    ensures settled { bounds.new ≡ final_bounds rounds (columns costs.now deadlines.now periods.now) processors method }
+pub fn settle_rounds(asked: &Asked, bounds: &mut [u32], next: &mut [u32]) -> u64
+    requires { Underway asked.now bounds.old × (length next.old ≡ (sheet asked.now).rows) }
+    ensures seen { result ≡ end_marks rounds asked.now }
+    ensures settled { bounds.new ≡ end_bounds rounds asked.now }
 {
     loop {
-        let outcome = round_rows(
-            costs, deadlines, periods, bounds, next, processors, method, count,
-        );
-        let again = outcome.moved;
-        if !again {
-            return outcome.seen;
+        if let Some(seen) = round_rows(asked, bounds, next) {
+            return seen;
         }
     }
 }
@@ -83,101 +49,56 @@ pub fn settle_rounds(
 // The at-once engine: sweep after sweep, until one changes nothing; the marks are those of the last. Between sweeps bounds may be lowered
 // further, as far as turns allow it: the end is the same.
 pub fn settle_at_once(
-    costs: &[u32],
-    deadlines: &[u32],
-    periods: &[u32],
+    asked: &Asked,
     bounds: &mut [u32],
     before: &mut [u32],
-    drops: &mut [u32],
-    others: &mut [u32],
-    room: &mut [u32],
-    processors: u32,
-    method: u32,
-    count: u32,
+    space: &mut Space,
 ) -> u64
-    requires { let s = columns costs.now deadlines.now periods.now in Running s bounds.old count processors method × (length before.old ≡ count) × (length drops.old ≡ count) × (length others.old ≡ 320) × (length room.old ≡ count) × Even costs.now deadlines.now periods.now }
-    ensures seen { result ≡ final_marks at_once (columns costs.now deadlines.now periods.now) processors method }
-    ensures settled { bounds.new ≡ final_bounds at_once (columns costs.now deadlines.now periods.now) processors method }
+    requires { Underway asked.now bounds.old × (length before.old ≡ (sheet asked.now).rows) }
+    ensures seen { result ≡ end_marks at_once asked.now }
+    ensures settled { bounds.new ≡ end_bounds at_once asked.now }
 {
+    let mut drops = Drops { each: [0; 64] };
     let mut sweeps = 0;
     loop {
-        let outcome = sweep_rows(
-            costs, deadlines, periods, bounds, before, processors, method, count, others, room,
-        );
-        let moved = outcome.moved;
-        if !moved {
-            return outcome.seen;
+        if let Some(seen) = sweep_rows(asked, bounds, before, space) {
+            return seen;
         }
-        note_drops(
-            costs, deadlines, periods, bounds, before, drops, count, sweeps,
-        );
+        let given = Bounded {
+            asked: *asked,
+            bounds,
+        };
+        note_drops(&given, before, &mut drops, sweeps);
         sweeps = (sweeps + 1) % 8;
-        hasten(
-            costs, deadlines, periods, bounds, drops, processors, method, count, sweeps,
-        );
+        hasten(asked, bounds, &mut drops, sweeps);
     }
 }
 
 // The rounds engine from its start: all bounds at the deadlines.
-pub fn run_rounds(
-    costs: &[u32],
-    deadlines: &[u32],
-    periods: &[u32],
-    bounds: &mut [u32],
-    processors: u32,
-    method: u32,
-) -> u64
-    requires { let s = columns costs.now deadlines.now periods.now in Allowed s × (1 ≤ processors) × (length bounds.old ≡ s.rows) × (processors ≤ 64) × Even costs.now deadlines.now periods.now }
-    ensures seen { result ≡ final_marks rounds (columns costs.now deadlines.now periods.now) processors method }
-    ensures settled { bounds.new ≡ final_bounds rounds (columns costs.now deadlines.now periods.now) processors method }
+#[tactic(auto, unfolding(model::specs::Sheet::columns))]
+pub fn run_rounds(asked: &Asked, bounds: &mut [u32]) -> u64
+    requires { length bounds.old ≡ (sheet asked.now).rows }
+    ensures seen { result ≡ end_marks rounds asked.now }
+    ensures settled { bounds.new ≡ end_bounds rounds asked.now }
 {
-    let end = costs.len();
-    let count = end as u32;
-    copy_back(deadlines, bounds, count);
-    let mut next = [0u32; 64];
-    settle_rounds(
-        costs,
-        deadlines,
-        periods,
-        bounds,
-        &mut next[..end],
-        processors,
-        method,
-        count,
-    )
+    bounds.copy_from_slice(asked.rows.deadlines);
+    // An array and no Vec: no heap.
+    let mut next = [0; 64];
+    let end = bounds.len();
+    settle_rounds(asked, bounds, &mut next[..end])
 }
 
 // The at-once engine from its start: all bounds at the deadlines.
-pub fn run_at_once(
-    costs: &[u32],
-    deadlines: &[u32],
-    periods: &[u32],
-    bounds: &mut [u32],
-    processors: u32,
-    method: u32,
-) -> u64
-    requires { let s = columns costs.now deadlines.now periods.now in Allowed s × (1 ≤ processors) × (length bounds.old ≡ s.rows) × (processors ≤ 64) × Even costs.now deadlines.now periods.now }
-    ensures seen { result ≡ final_marks at_once (columns costs.now deadlines.now periods.now) processors method }
-    ensures settled { bounds.new ≡ final_bounds at_once (columns costs.now deadlines.now periods.now) processors method }
+#[tactic(auto, unfolding(model::specs::Sheet::columns))]
+pub fn run_at_once(asked: &Asked, bounds: &mut [u32]) -> u64
+    requires { length bounds.old ≡ (sheet asked.now).rows }
+    ensures seen { result ≡ end_marks at_once asked.now }
+    ensures settled { bounds.new ≡ end_bounds at_once asked.now }
 {
-    let end = costs.len();
-    let rows = end as u32;
-    copy_back(deadlines, bounds, rows);
-    let mut before = [0u32; 64];
-    let mut drops = [0u32; 64];
-    let mut others = [0u32; 320];
-    let mut room = [0u32; 64];
-    settle_at_once(
-        costs,
-        deadlines,
-        periods,
-        bounds,
-        &mut before[..end],
-        &mut drops[..end],
-        &mut others,
-        &mut room[..end],
-        processors,
-        method,
-        rows,
-    )
+    let deadlines = asked.rows.deadlines;
+    let end = deadlines.len();
+    // An array and no Vec: no heap.
+    let mut before = [0; 64];
+    bounds.copy_from_slice(deadlines);
+    settle_at_once(asked, bounds, &mut before[..end], &mut Space::new())
 }

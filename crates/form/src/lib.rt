@@ -1,25 +1,24 @@
 // The form of a sheet: what may stand at each offset, and the first offset that is wrong.
 #![tactic(auto)]
 
-ghost use Rattle.std.specs.Prelude.{◌≡◌, ◌^◌, ◌<◌};
+ghost use Rattle.std.specs.Prelude.{◌≡◌, ◌^◌, ◌<◌, length};
+ghost use Rattle.laws.specs.Fill.{at_front};
 ghost use Rattle.rows.specs.Words.{found_of};
+ghost use Rattle.rows.specs.Checks.{words_refusal};
+ghost use Rattle.refusals.specs.Told.{said};
 ghost use Rattle.grammar.specs.Grammar.{sheet_length, line_allows, rows_written, wrong_at, first_wrong};
+ghost use Rattle.grammar.specs.Sheets.{between_refusal};
 ghost use Rattle.form.specs.Inner.{LineOne};
 
-use rows::Found;
+use grammar::Header;
+use refusals::Refusal;
+use table::check_words;
 
 // The length of line one.
 pub const HEAD: usize = 7;
 
 // The length of a row's line.
 pub const LINE: usize = 21;
-
-// Line one as written.
-#[derive(Clone, Copy)]
-pub struct FirstLine {
-    pub processors: u32,
-    pub rows: u32,
-}
 
 // How many bytes a sheet of so many rows has.
 pub fn sheet_length(rows: usize) -> usize
@@ -30,10 +29,10 @@ pub fn sheet_length(rows: usize) -> usize
 }
 
 // Reads line one: processors, then rows.
-pub fn first_line(bytes: &[u8]) -> FirstLine
+pub fn first_line(bytes: &[u8]) -> Header
     ensures { LineOne bytes.now result }
 {
-    FirstLine {
+    Header {
         processors: digits::two_digits(bytes, 2),
         rows: digits::two_digits(bytes, 4),
     }
@@ -73,18 +72,25 @@ pub fn wrong_at(bytes: &[u8], full: usize, offset: usize) -> bool
 }
 
 // The first wrong offset.
-pub fn first_wrong(bytes: &[u8]) -> Found
+pub fn first_wrong(bytes: &[u8]) -> Option<u32>
     ensures { result ≡ found_of (first_wrong bytes.now) }
 {
     let line = first_line(bytes);
     let full = sheet_length(line.rows as usize);
-    let mut offset = 0;
-    while offset <= full {
+    for offset in 0..=full {
         if wrong_at(bytes, full, offset) {
-            let place = offset as u32;
-            return Found::At(place);
+            return Some(offset as u32);
         }
-        offset += 1;
     }
-    Found::Nowhere
+    None
+}
+
+// Judges rows in the words that were read, and copies these to the front of `words` only where every check has passed.
+pub fn hand_over(processors: u32, read: &[u32], words: &mut [u32]) -> Result<(), Refusal>
+    ensures value { said result ≡ words_refusal read.now (between_refusal processors (length words.old) (length read.now)) }
+    ensures words_left { words.new ≡ at_front (words_refusal read.now (between_refusal processors (length words.old) (length read.now))).number read.now words.old }
+{
+    check_words(read, processors, words.len(), read.len())?;
+    words[..read.len()].copy_from_slice(read);
+    Ok(())
 }

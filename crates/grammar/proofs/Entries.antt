@@ -14,9 +14,10 @@ use Rattle.laws.specs.Choice.{pick}
 use Rattle.laws.proofs.Fill.{front_put}
 use Rattle.laws.proofs.Choice.{number_kept, zero_where_refused}
 use Rattle.model.specs.Sheet.{processors_allowed}
-use Rattle.rows.specs.declared.Refusal.{Refusal}
+use Rattle.refusals.specs.Refusals.{Refusal}
 use Rattle.rows.specs.Words.{sheet_of}
-use Rattle.rows.specs.Checks.{refused, not_refused, processors_refusal, room_refusal, first_of, first_held}
+use Rattle.rows.specs.Checks.{processors_refusal, room_refusal, first_of, first_held}
+use Rattle.refusals.specs.Refusals.{refused, not_refused}
 use Rattle.rows.proofs.Checks.{each_number}
 use Rattle.grammar.specs.declared.Read.{Read}
 use Rattle.grammar.specs.declared.Written.{Written}

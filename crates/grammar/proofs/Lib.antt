@@ -10,3 +10,4 @@ pub mod RoundTrips
 pub mod ReadAlike
 pub mod OneAnswer
 pub mod Prefix
+pub mod Told

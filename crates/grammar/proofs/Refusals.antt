@@ -9,13 +9,15 @@ use lib.ListN.{length}
 use Rattle.laws.proofs.Choice.{not-refused, is_refused}
 use Rattle.laws.proofs.Fill.{listed-length, front_left}
 use Rattle.laws.specs.Fill.{at_front}
-use Rattle.rows.specs.declared.Refusal.{Refusal}
+use Rattle.refusals.specs.Refusals.{Refusal}
 use Rattle.model.specs.Sheet.{Sheet, triples}
 use Rattle.rows.specs.Words.{sheet_of}
-use Rattle.rows.specs.Checks.{refused, not_refused, processors_refusal, room_refusal, laid_refusal, words_refusal}
+use Rattle.rows.specs.Checks.{processors_refusal, room_refusal, laid_refusal, words_refusal}
+use Rattle.refusals.specs.Refusals.{refused, not_refused}
 use Rattle.rows.proofs.Fold.{none_held, held_none}
 use Rattle.rows.proofs.Checks.{laid_words, accepted, accepted-passes, count_refused, processors_allowed_lem, allowed_processors, room_enough, enough_room}
 use Rattle.grammar.specs.declared.Read.{Read}
+use Rattle.grammar.specs.declared.Written.{Written}
 use Rattle.grammar.specs.Grammar.{processors_written, rows_written, first_wrong}
 use Rattle.grammar.specs.Lines.{word_written, words_written}
 use Rattle.grammar.specs.Meaning.{RowsFit, WordsFit}
@@ -72,6 +74,14 @@ write_refused refusal size one_holds = sym (is_refused _ _ _ one_holds)
 pub write_accepted : (refusal : Refusal) (size : ℕ) → refusal.number ≡ 0 → record { refusal = 0; place = 0; length = size } ≡ write_answer refusal size
 unfolding write_answer
 write_accepted refusal size none_holds = sym (not-refused _ _ _ none_holds)
+
+-- A refused writing: what it returns, and that it changes no byte.
+pub writing_refused : (refusal given : Refusal) (size : ℕ) (sheet out : List ℕ) (r : Written)
+    → r ≡ record { refusal = refusal.number; place = refusal.place; length = 0 }
+    → refusal ≡ given → (refusal.number ≡ 0 → ⊥) → (r ≡ write_answer given size) × (out ≡ at_front given.number sheet out)
+writing_refused refusal given size sheet out r returned same one_holds =
+    rw (← same)
+    (returned ∙ write_refused refusal size one_holds, front_left refusal.number sheet out one_holds)
 
 -- The words of a sheet are three a row.
 pub words_length : (bytes : List ℕ) → length (words_written bytes) ≡ 3 * rows_written bytes

@@ -3,9 +3,10 @@ use Rattle.std.specs.Prelude.{◌≡◌, List, [], ◌∷◌, ℕ, ◌*◌, leng
 use Rattle.std.proofs.Math.Option.{Option, none, some}
 use Rattle.laws.specs.Choice.{unless_refused}
 use Rattle.laws.specs.Fill.{at_front}
-use Rattle.rows.specs.declared.Refusal.{Refusal}
+use Rattle.refusals.specs.Refusals.{Refusal}
 use Rattle.rows.specs.Words.{sheet_of}
-use Rattle.rows.specs.Checks.{refused, processors_refusal, room_refusal, first_held, words_refusal}
+use Rattle.rows.specs.Checks.{processors_refusal, room_refusal, first_held, words_refusal}
+use Rattle.refusals.specs.Refusals.{refused}
 use Rattle.grammar.specs.declared.Read.{Read}
 use Rattle.grammar.specs.declared.Written.{Written}
 use Rattle.grammar.specs.Grammar.{sheet_length, processors_written, rows_written, first_wrong}

@@ -4,23 +4,19 @@
 ghost use Rattle.std.specs.Prelude.{◌≡◌, ℕ, ◌+◌, ◌*◌, ◌-◌, ◌≤◌, ◌<◌, min, leb, length, get_or};
 ghost use Rattle.laws.specs.Sum.{total};
 ghost use Rattle.model.specs.Answer.{rta_answer};
-ghost use Rattle.model.specs.Sheet.{columns};
-ghost use Rattle.rows.specs.Words.{found_of, bound_or};
-ghost use Rattle.rows.specs.Inner.{Even};
-ghost use Rattle.refinement.specs.Question.{Ready};
+ghost use Rattle.rows.specs.Words.{found_of};
+ghost use Rattle.refinement.specs.Asked.{sheet};
 ghost use Rattle.refinement.specs.Inner.{Rooms, Jumped};
-ghost use Rattle.refinement.specs.Inner.Kept.{KeptRow, KeptRows, Kept, Tried, line_at, kept_sum, Excluded};
+ghost use Rattle.refinement.specs.Inner.Kept.{KeptNumbers, line_from, line_at};
+ghost use Rattle.pending.specs.Added.{added, ExcludedBy};
 
-use numbers::lesser;
-use pending::{Pending, fill_rooms, keep_pending, meet_others};
+use bounded::Bounded;
+use pending::{Pending, Space, Trial};
+use refinement::Other;
 
-// The rows kept and what is settled, with the X to go on from.
-#[derive(Clone, Copy)]
-pub struct Leap {
-    pub left: u32,
-    pub settled: u32,
-    pub x: u32,
-}
+mod sought;
+
+pub use sought::Sought;
 
 // The rooms below a number of steps, added up, and how many are no smaller.
 #[derive(Clone, Copy)]
@@ -30,42 +26,40 @@ pub struct Split {
 }
 
 // 1 where a room lets one through at every step, else 0.
+// A number and no bool: it is added up.
 pub fn lets_all(room: u32, far: u32) -> u32
     ensures { (result ≤ 1) × (result * far ≤ min far room) }
 {
-    if room < far { 0 } else { 1 }
+    u32::from(far <= room)
 }
 
 // How much all rooms let through in so many steps: the small ones wholly, of the others one a step.
-pub fn split_rooms(room: &[u32], count: u32, far: u32) -> Split
-    requires { Rooms room.now count }
-    ensures exact { result.full + result.wide * far ≡ total (λ i. min far (get_or room.now i 0)) count }
+pub fn split_rooms(room: &[u32], far: u32) -> Split
+    requires { Rooms room.now }
+    ensures exact { result.full + result.wide * far ≡ total (λ i. min far (get_or room.now i 0)) (length room.now) }
     ensures fits { (result.full ≤ 64_000_000) × (result.wide ≤ 64) }
 {
     let mut sum = 0;
     let mut wide = 0;
-    let mut other = 0;
-    while other < count {
-        let here = room[other as usize];
-        sum += lesser(here, far);
+    for &here in room {
+        sum += here.min(far);
         wide += lets_all(here, far);
-        other += 1;
     }
     Split {
         full: sum - wide * far,
-        wide: wide,
+        wide,
     }
 }
 
 // How many steps are excluded at once: the longest jump that Newton's rule meets, from what all rooms together pay for downward, on which the
 // sum keeps up.
-pub fn jump(room: &[u32], count: u32, gain: u32, all: u32, processors: u32, most: u32) -> u32
-    requires { Rooms room.now count × (gain ≤ 64_000_000) × (1 ≤ processors) × (processors ≤ 64) × (most ≤ 1_000_000) }
-    ensures { Jumped room.now count gain processors most result }
+pub fn jump(room: &[u32], gain: u32, all: u32, processors: u32, most: u32) -> u32
+    requires { Rooms room.now × (gain ≤ 64_000_000) × (1 ≤ processors) × (processors ≤ 64) × (most ≤ 1_000_000) }
+    ensures { Jumped room.now gain processors most result }
 {
-    let mut far = lesser(most, all / processors);
+    let mut far = most.min(all / processors);
     loop {
-        let split = split_rooms(room, count, far);
+        let split = split_rooms(room, far);
         let wide = split.wide;
         let sure = gain + split.full;
         if processors * far <= sure + wide * far {
@@ -76,153 +70,111 @@ pub fn jump(room: &[u32], count: u32, gain: u32, all: u32, processors: u32, most
 }
 
 // What the line below a row's work gives at X: its cost / period of the time, within its share and the cap, in parts of 2^32.
-pub fn line(others: &[u32], place: u32, x: u32, cap: u32) -> u64
-    requires { (length others.now ≡ 320) × (place < 64) × KeptRow others.now place × (x ≤ 1_000_000) }
-    ensures { result ≡ line_at others.now x cap place }
+pub fn line(other: &Other, trial: Trial) -> u64
+    requires { KeptNumbers other.now }
+    ensures { result ≡ line_from other.now trial.x trial.cap }
 {
-    let at = place as usize;
-    let most = 4_294_967_296 * (lesser(others[at + 192], cap) as u64);
-    let slope = (others[at] as u64) * 4_294_967_296 / (others[at + 64] as u64);
-    let level = slope * ((x + others[at + 128]) as u64);
-    if level < most { level } else { most }
+    let most = 4_294_967_296 * u64::from(other.share.min(trial.cap));
+    let slope = u64::from(other.cost) * 4_294_967_296 / u64::from(other.period);
+    let level = slope * u64::from(trial.x + other.ahead);
+    level.min(most)
 }
 
 // What the lines of the rows kept give at X.
-pub fn line_sum(others: &[u32], left: u32, x: u32, cap: u32) -> u64
-    requires { KeptRows others.now left × (x ≤ 1_000_000) × (cap ≤ 1_000_000) }
-    ensures { result ≡ total (line_at others.now x cap) left }
+// A function, as those below, and no method: the rows kept are a type of the crate below, which knows of no lines, jumps or climbs.
+pub fn line_sum(pending: &Pending, trial: Trial) -> u64
+    requires { trial.cap ≤ 1_000_000 }
+    ensures { result ≡ total (line_at pending.now.others trial.x trial.cap) pending.now.left }
 {
     let mut sum = 0;
-    let mut next = 0;
-    while next < left {
-        sum += line(others, next, x, cap);
-        next += 1;
+    for other in &pending.others[..pending.left as usize] {
+        sum += line(other, trial);
     }
     sum
 }
 
 // Whether the lines, with what is settled, show that X does not solve the equation.
-pub fn line_excludes(others: &[u32], rows: Pending, processors: u32, x: u32, cap: u32) -> bool
-    requires { Kept others.now rows.left rows.settled × (processors ≤ 64) × (x ≤ 1_000_000) × (cap ≤ 1_000_000) }
-    ensures { result ≡ leb (4_294_967_296 * (processors * cap)) (4_294_967_296 * rows.settled + total (line_at others.now x cap) rows.left) }
+pub fn line_excludes(pending: &Pending, processors: u32, trial: Trial) -> bool
+    requires { (processors ≤ 64) × (trial.cap ≤ 1_000_000) }
+    ensures { result ≡ leb (4_294_967_296 * (processors * trial.cap)) (4_294_967_296 * pending.now.settled + total (line_at pending.now.others trial.x trial.cap) pending.now.left) }
 {
-    let sum = line_sum(others, rows.left, x, cap);
-    4_294_967_296 * ((processors * cap) as u64) <= 4_294_967_296 * (rows.settled as u64) + sum
+    let sum = line_sum(pending, trial);
+    4_294_967_296 * u64::from(processors * trial.cap)
+        <= 4_294_967_296 * u64::from(pending.settled) + sum
 }
 
 // Some X from the present one to the deadline with which and with the present one the lines exclude all between: looked for by halving the
 // way down to 64, and the present one where none is found. That no farther one would do is not claimed.
-pub fn far_from(others: &[u32], rows: Pending, own: u32, top: u32, processors: u32, x: u32) -> u32
-    requires { Kept others.now rows.left rows.settled × Tried own top x × (processors ≤ 64) }
-    ensures { (x ≤ result) × (result ≤ top) × Excluded others.now rows.left rows.settled processors own x result }
+pub fn far_from(pending: &Pending, sought: Sought, x: u32) -> u32
+    requires { (sought.own ≤ x) × (x ≤ sought.top) }
+    ensures { (x ≤ result) × (result ≤ sought.top) × ExcludedBy pending.now sought.processors sought.own x result }
 {
-    let cap = x - own + 1;
-    if !line_excludes(others, rows, processors, x, cap) {
+    let here = sought.at(x);
+    if !line_excludes(pending, sought.processors, here) {
         return x;
     }
-    let mut far = top - x;
+    let mut far = sought.top - x;
     while 64 < far {
-        if line_excludes(others, rows, processors, x + far, cap + far) {
+        let there = sought.at(x + far);
+        if line_excludes(pending, sought.processors, there) {
             return x + far;
         }
-        far = far / 2;
+        far /= 2;
     }
     x
 }
 
 // Every 16th step the rows that add their whole share are left out, and X goes as far as the lines exclude.
-pub fn leap_far(
-    others: &mut [u32],
-    rows: Pending,
-    own: u32,
-    top: u32,
-    processors: u32,
-    x: u32,
-    step: u32,
-) -> Leap
-    requires { Kept others.old rows.left rows.settled × Tried own top x × (processors ≤ 64) }
-    ensures kept { Kept others.new result.left result.settled × (result.left ≤ rows.left) }
-    ensures sums { (d : ℕ) → kept_sum others.new result.left result.settled (x + d) (x - own + 1 + d) ≡ kept_sum others.old rows.left rows.settled (x + d) (x - own + 1 + d) }
-    ensures goes { (x ≤ result.x) × (result.x ≤ top) × Excluded others.new result.left result.settled processors own x result.x }
+pub fn leap_far(pending: &mut Pending, sought: Sought, x: u32, step: u32) -> u32
+    requires { (sought.own ≤ x) × (x ≤ sought.top) }
+    ensures fewer { pending.new.left ≤ pending.old.left }
+    ensures sums { (d : ℕ) → added pending.new (x + d) (x - sought.own + 1 + d) ≡ added pending.old (x + d) (x - sought.own + 1 + d) }
+    ensures goes { (x ≤ result) × (result ≤ sought.top) × ExcludedBy pending.new sought.processors sought.own x result }
 {
     if step % 16 == 0 {
-        let kept = keep_pending(others, rows, x, x - own + 1);
-        let far = far_from(others, kept, own, top, processors, x);
-        Leap {
-            left: kept.left,
-            settled: kept.settled,
-            x: far,
-        }
+        pending.keep_pending(sought.at(x));
+        far_from(pending, sought, x)
     } else {
-        Leap {
-            left: rows.left,
-            settled: rows.settled,
-            x: x,
-        }
+        x
     }
 }
 
 // The next X to look at: X itself only where its right side does not pass it, else a later one, and all that is passed is excluded. That it
 // is the first that is not excluded is not claimed.
-pub fn onward(
-    others: &[u32],
-    rows: Pending,
-    own: u32,
-    top: u32,
-    processors: u32,
-    x: u32,
-    room: &mut [u32],
-) -> u32
-    requires { Kept others.now rows.left rows.settled × Tried own top x × (1 ≤ processors) × (processors ≤ 64) × (rows.left ≤ length room.old) }
-    ensures goes { (x ≤ result) × Excluded others.now rows.left rows.settled processors own x result }
-    ensures stands { result ≡ x → kept_sum others.now rows.left rows.settled x (x - own + 1) < processors * (x - own + 1) }
+pub fn onward(pending: &Pending, sought: Sought, x: u32, room: &mut [u32]) -> u32
+    requires { (sought.own ≤ x) × (x ≤ sought.top) × (1 ≤ sought.processors) × (pending.now.left ≤ length room.old) }
+    ensures goes { (x ≤ result) × ExcludedBy pending.now sought.processors sought.own x result }
+    ensures stands { result ≡ x → added pending.now x (x - sought.own + 1) < sought.processors * (x - sought.own + 1) }
 {
-    let cap = x - own + 1;
-    let here = fill_rooms(others, rows, x, cap, room);
-    let supply = processors * cap;
+    let trial = sought.at(x);
+    let here = pending.fill_rooms(trial, room);
+    let supply = sought.processors * trial.cap;
     if here.term < supply {
         return x;
     }
     let gain = here.term - supply;
     let all = here.top - supply;
-    x + jump(room, rows.left, gain, all, processors, top - x) + 1
+    let between = &room[..pending.left as usize];
+    x + jump(between, gain, all, sought.processors, sought.top - x) + 1
 }
 
-// RTA: climbs from the cost past what is excluded to the least X that is its own right side; 0 where there is none up to the deadline.
-pub fn rta_quickly(
-    costs: &[u32],
-    deadlines: &[u32],
-    periods: &[u32],
-    bounds: &[u32],
-    row: u32,
-    count: u32,
-    processors: u32,
-    others: &mut [u32],
-    room: &mut [u32],
-) -> u32
-    requires { let s = columns costs.now deadlines.now periods.now in Ready s bounds.now × (row < s.rows) × (count ≡ s.rows) × (1 ≤ processors) × (processors ≤ 64) × (length others.old ≡ 320) × (length room.old ≡ count) × Even costs.now deadlines.now periods.now }
-    ensures { result ≡ bound_or (found_of (rta_answer (columns costs.now deadlines.now periods.now) processors row bounds.now)) 0 }
+// RTA: climbs from the cost past what is excluded to the least X that is its own right side, if there is one up to the deadline.
+pub fn rta_quickly(given: &Bounded, row: u32, space: &mut Space) -> Option<u32>
+    requires { row < (sheet given.now.asked).rows }
+    ensures { result ≡ found_of (rta_answer (sheet given.now.asked) given.now.asked.processors row given.now.bounds.now) }
 {
-    let own = costs[row as usize];
-    let top = deadlines[row as usize];
-    let mut rows = meet_others(costs, deadlines, periods, bounds, row, count, top, others);
-    let mut x = own;
+    let sought = Sought::of_row(&given.asked, row);
+    space.pending.meet_others(given, row);
+    let mut x = sought.own;
     let mut step = 0u32;
-    loop {
+    while x <= sought.top {
         step += 1;
-        let kept = leap_far(others, rows, own, top, processors, x, step);
-        let from = kept.x;
-        rows = Pending {
-            left: kept.left,
-            settled: kept.settled,
-        };
-        let next = onward(others, rows, own, top, processors, from, room);
+        let from = leap_far(&mut space.pending, sought, x, step);
+        let next = onward(&space.pending, sought, from, &mut space.room);
         if next == from {
-            return from;
-        }
-        if top < next {
-            return 0;
+            return Some(next);
         }
         x = next;
     }
+    None
 }

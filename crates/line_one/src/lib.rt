@@ -20,7 +20,7 @@ pub fn announced_length(reached: Reached) -> usize
 pub fn digit_more(value: u32, byte: u8) -> u32
     ensures { result ≡ digit_more value byte }
 {
-    value % 0x8000000 * 16 + digits::digit_value(byte) as u32
+    value % 0x8000000 * 16 + u32::from(digits::digit_value(byte))
 }
 
 // A number that stands in two digits from offset `at` on, after one byte more at an offset.
@@ -28,10 +28,8 @@ pub fn with_byte(at: u32, offset: u32, byte: u8, value: u32) -> u32
     requires { at ≤ 4 }
     ensures { result ≡ with_byte at 2 offset byte value }
 {
-    if at <= offset {
-        if offset < at + 2 {
-            return digit_more(value, byte);
-        }
+    if (at..at + 2).contains(&offset) {
+        return digit_more(value, byte);
     }
     value
 }
@@ -43,21 +41,21 @@ pub fn reached_with(reached: Reached, byte: u8) -> Reached
 {
     Reached {
         taken: reached.taken + 1,
-        wrong: reached.wrong,
         processors: with_byte(2, reached.taken, byte, reached.processors),
         rows: with_byte(4, reached.taken, byte, reached.rows),
+        ..reached
     }
 }
 
 // The same line one, with so many bytes taken and the next wrong (1) or not (0).
+// Whether the next is wrong stays a number: it is the field that C holds (pieces, Reached).
 pub fn moved(reached: Reached, taken: u32, wrong: u32) -> Reached
     ensures { result ≡ moved_to reached taken wrong }
 {
     Reached {
-        taken: taken,
-        wrong: wrong,
-        processors: reached.processors,
-        rows: reached.rows,
+        taken,
+        wrong,
+        ..reached
     }
 }
 
@@ -67,16 +65,14 @@ pub fn take_first(start: Reached, bytes: &[u8]) -> Reached
     ensures { TakesFirst start bytes.now result }
 {
     let mut reached = start;
-    let mut passed = 0;
-    while passed < bytes.len() {
+    for &byte in bytes {
         if HEAD <= reached.taken as usize {
             return reached;
         }
-        if !line_allows(b'1', HEAD - 1, reached.taken as usize, bytes[passed]) {
+        if !line_allows(b'1', HEAD - 1, reached.taken as usize, byte) {
             return moved(reached, reached.taken, 1);
         }
-        reached = reached_with(reached, bytes[passed]);
-        passed += 1;
+        reached = reached_with(reached, byte);
     }
     reached
 }

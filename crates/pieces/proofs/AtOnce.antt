@@ -12,8 +12,8 @@ use Rattle.laws.specs.Fill.{at_front}
 use Rattle.laws.proofs.Choice.{pick_yes}
 use Rattle.laws.proofs.Order.{below_or_from}
 use Rattle.laws.proofs.Fill.{listed_at, listed_same, front_left}
-use Rattle.rows.specs.declared.Refusal.{Refusal}
-use Rattle.rows.specs.Checks.{refused}
+use Rattle.refusals.specs.Refusals.{Refusal}
+use Rattle.refusals.specs.Refusals.{refused}
 use Rattle.grammar.specs.Grammar.{head, line, sheet_length, processors_written, rows_written, first_wrong}
 use Rattle.grammar.specs.Lines.{word_offset, word_written, words_written}
 use Rattle.grammar.specs.Meaning.{Formed, EndsAt, WrongByteAt, Breaks, FormMeans}

@@ -14,7 +14,7 @@ use Rattle.laws.proofs.Choice.{pick_no, and_fails}
 use Rattle.grammar.specs.declared.Read.{Read}
 use Rattle.grammar.specs.Grammar.{sheet_allows}
 use Rattle.pieces.specs.declared.Pieces.{Pieces}
-use Rattle.pieces.specs.declared.Given.TheVariants.{NotYet, Answer}
+use Rattle.std.specs.declared.option.Option.TheVariants.{Some, None}
 use Rattle.pieces.specs.Feeding.{announced, reached_with, reached_wrong, words_with, moved_on, counts, fed_byte, fed}
 use Rattle.pieces.specs.Ending.{end_found, end_answer, ended, words_after_end, given, ending}
 use Rattle.pieces.specs.Pieced.{fed_all, in_a_row, EndsOnce}
@@ -76,7 +76,7 @@ pub given_kept : (s : Pieces) (bytes : List ℕ) → given (fed s bytes) ≡ giv
 unfolding given
 given_kept s bytes =
     let kept = fed_keeps s bytes in
-    ap₂ (λ (n : ℕ) (answer : Read). pick (eqb n 0) NotYet (Answer answer)) kept.0 kept.1
+    ap₂ (λ (n : ℕ) (answer : Read). pick (eqb n 0) None (Some answer)) kept.0 kept.1
 
 -- Where bytes no longer count, none changes anything.
 byte_uncounted : (s : Pieces) (byte : ℕ) → counts s ≡ false → fed_byte s byte ≡ s

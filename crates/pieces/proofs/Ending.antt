@@ -9,8 +9,8 @@ use lib.Seq.{ext_get_or, length-take-le, get_or-take}
 use Rattle.laws.specs.Fill.{listed, at_front}
 use Rattle.laws.proofs.Choice.{pick_yes, pick_no, and_both, and_fails, and_holds}
 use Rattle.laws.proofs.Fill.{listed-length, listed_at}
-use Rattle.rows.specs.declared.Refusal.{Refusal}
-use Rattle.rows.specs.Checks.{refused}
+use Rattle.refusals.specs.Refusals.{Refusal}
+use Rattle.refusals.specs.Refusals.{refused}
 use Rattle.grammar.specs.declared.Read.{Read}
 use Rattle.grammar.specs.Grammar.{sheet_length}
 use Rattle.grammar.specs.Sheets.{form_refusal, read_refused}

@@ -4,16 +4,15 @@ use mathlib.Core.List.{List}
 use Prim.Native.Nat.{ℕ}
 use borrow.Author.Tests.{eq-eqb, ne_eqb}
 use lib.ListN.{length}
+use Rattle.std.specs.declared.option.Option.TheVariants.{Some, None}
 use Rattle.laws.proofs.Choice.{pick_yes, pick_no}
 use Rattle.grammar.specs.declared.Read.{Read}
 use Rattle.pieces.specs.declared.Reached.{Reached}
 use Rattle.pieces.specs.declared.Pieces.{Pieces}
-use Rattle.pieces.specs.declared.Given.{Given}
-use Rattle.pieces.specs.declared.Given.TheVariants.{NotYet, Answer}
 use Rattle.pieces.specs.declared.Fed.{Fed}
 use Rattle.pieces.specs.declared.Ended.{Ended}
-use Rattle.pieces.specs.Feeding.{fed}
-use Rattle.pieces.specs.Ending.{end_found, end_leaves, end_answer, ended, words_after_end, given, feeding, ending}
+use Rattle.pieces.specs.Feeding.{moved_on, fed}
+use Rattle.pieces.specs.Ending.{end_found, end_leaves, end_answer, ended, words_after_end, Given, given, feeding, ending}
 use Rattle.pieces.specs.Inner.{in_hand, Takes}
 use Rattle.pieces.proofs.Cut.{fed_after, end_after, words_after}
 
@@ -24,7 +23,7 @@ abbrev ended_with : Pieces → Read → Ended
 ended_with state answer = record { state = state; answer = answer }
 
 module _ (s : Pieces) (after : s.ended ≡ 0 → ⊥) where
-  pub feeding_after : (bytes : List ℕ) → fed_with s (Answer s.answer) ≡ feeding s bytes
+  pub feeding_after : (bytes : List ℕ) → fed_with s (Some s.answer) ≡ feeding s bytes
   unfolding feeding given
   feeding_after bytes = sym (ap₂ fed_with (fed_after s bytes after) (pick_no _ _ _ (ne_eqb s.ended 0 after)))
 
@@ -36,12 +35,13 @@ module _ (s : Pieces) (after : s.ended ≡ 0 → ⊥) where
 
 module _ (s : Pieces) (before : s.ended ≡ 0) where
   pub feeding_on : (bytes words : List ℕ) (reached : Reached) → Takes s.reached s.words bytes reached words
-      → fed_with (in_hand reached words s.answer) NotYet ≡ feeding s bytes
+      → fed_with (moved_on s reached words) None ≡ feeding s bytes
   unfolding feeding given
   feeding_on bytes words reached takes =
+      let as_ended : (r : Reached) (l : List ℕ) → moved_on s r l ≡ in_hand r l s.answer = λ r l. rw before in
       sym
       (ap₂ fed_with
-      (ap (λ (n : ℕ). fed (record { reached = s.reached; words = s.words; ended = n; answer = s.answer }) bytes) before ∙ takes s.answer)
+      (ap (λ (t : Pieces). fed t bytes) (as_ended s.reached s.words) ∙ takes s.answer ∙ sym (as_ended reached words))
       (pick_yes _ _ _ (eq-eqb s.ended 0 before)))
 
   pub ending_on : (lent left : List ℕ) (r : Read)

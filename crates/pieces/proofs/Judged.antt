@@ -9,16 +9,15 @@ use Rattle.laws.specs.Fill.{at_front}
 use Rattle.laws.proofs.Choice.{not-refused, is_refused}
 use Rattle.laws.proofs.Fill.{front_left}
 use Rattle.model.specs.Sheet.{triples}
-use Rattle.rows.specs.declared.Refusal.{Refusal}
+use Rattle.refusals.specs.Refusals.{Refusal}
 use Rattle.rows.specs.Words.{sheet_of}
-use Rattle.rows.specs.Checks.{refused}
+use Rattle.refusals.specs.Refusals.{refused}
 use Rattle.rows.proofs.Checks.{laid_words, count_refused}
 use Rattle.grammar.specs.declared.Read.{Read}
 use Rattle.grammar.specs.Grammar.{processors_written, rows_written}
 use Rattle.grammar.specs.Lines.{words_written}
-use Rattle.grammar.specs.Meaning.{WordsFit}
 use Rattle.grammar.specs.Sheets.{formed_refusal, read_refused, read_answer}
-use Rattle.grammar.proofs.Refusals.{passed, words_length}
+use Rattle.grammar.proofs.Refusals.{words_length}
 use Rattle.pieces.specs.Ending.{judged_refusal, found_answer}
 
 -- What is found, refused or not.
@@ -51,12 +50,6 @@ unfolding judged_refusal
 judged_many processors words rows room size many =
     let count : (sheet_of words).rows ≡ rows = three_a_row words rows size in
     count_refused _ (sheet_of words) _ (laid_words words (record { whole = rw count size })) (rw count many)
-
--- Words that are not refused passed their checks.
-pub judged_passed : (processors : ℕ) (words : List ℕ) (room : ℕ) → (judged_refusal processors words room).number ≡ 0
-    → WordsFit words processors room (length words)
-unfolding judged_refusal
-judged_passed processors words room none_holds = passed _ _ processors room (length words) none_holds
 
 -- The checks of reading, and what it returns, are these of what the bytes say.
 pub formed_judged : (bytes : List ℕ) (room : ℕ) → formed_refusal bytes room ≡ judged_refusal (processors_written bytes) (words_written bytes) room

@@ -1,5 +1,5 @@
 -- What a piece gives line one, byte by byte: the loop has passed right bytes only, and what is left of the piece goes on from there.
-use mathlib.Core.Path.{◌≡◌, refl, sym, ◌∙◌, ap}
+use mathlib.Core.Path.{◌≡◌, sym, ◌∙◌, ap}
 use mathlib.Core.Bool.{Bool, true, false}
 use mathlib.Core.List.{List}
 use mathlib.Core.Logic.{◌⊎◌, ⊎_elim}
@@ -23,9 +23,6 @@ pub record Begun (start : Reached) (bytes : List ℕ) (reached : Reached) (passe
   pub count : reached.taken ≡ start.taken + passed
   pub inside : passed ≤ length bytes
   pub goes_on : (words : List ℕ) (answer : Read) → fed (in_hand start words answer) bytes ≡ fed (in_hand reached words answer) (drop passed bytes)
-
-pub begun_none : (start : Reached) (bytes : List ℕ) → start.wrong ≡ 0 → Begun start bytes start 0
-begun_none start bytes none_wrong = record { none_wrong = none_wrong; count = omega arith; inside = omega arith; goes_on = λ words answer. refl }
 
 module _ (start : Reached) (bytes : List ℕ) (reached : Reached) (passed : ℕ) (begun : Begun start bytes reached passed) where
   -- Enough of it passed, or all of it.

@@ -1,5 +1,5 @@
 -- What a piece gives the rows' lines, byte by byte: the loop has passed right bytes only, and each has put its digit.
-use mathlib.Core.Path.{◌≡◌, refl, sym, ◌∙◌, ap, ap₂}
+use mathlib.Core.Path.{◌≡◌, sym, ◌∙◌, ap}
 use mathlib.Core.Bool.{true, false}
 use mathlib.Core.List.{List}
 use Prim.Native.Nat.{ℕ, ◌+◌, ◌≤◌, ◌<◌}
@@ -21,18 +21,6 @@ pub record Going (start : Reached) (bytes before words : List ℕ) (taken passed
   pub inside : passed ≤ length bytes
   pub kept : length words ≡ length before
   pub goes_on : (answer : Read) → fed (in_hand start before answer) bytes ≡ fed (in_hand (moved_to start taken 0) words answer) (drop passed bytes)
-
-pub going_none : (start : Reached) (bytes words : List ℕ) (taken : ℕ) → start.wrong ≡ 0 → head ≤ start.taken → taken ≡ start.taken
-    → Going start bytes words words taken 0
-going_none start bytes words taken none_wrong past same =
-    record {
-      past = rw same past;
-      inside = omega arith;
-      kept = refl;
-      goes_on = λ answer.
-          ap (λ (reached : Reached). fed (in_hand reached words answer) bytes)
-          (sym (ap₂ (moved_to start) same (sym none_wrong)));
-    }
 
 -- A digit more leaves as many words.
 words_kept : (offset byte : ℕ) (words : List ℕ) → length (words_with offset byte words) ≡ length words

@@ -1,17 +1,15 @@
 -- The end of a sheet that came in pieces: what it answers, the state behind it, and what it leaves in the lent words.
-use Rattle.std.specs.Prelude.{◌&&◌, List, ℕ, ◌*◌, eqb, length, get_or}
+use Rattle.std.specs.Prelude.{Option as Maybe, Some, None, ◌&&◌, List, ℕ, ◌*◌, eqb, length, get_or}
 use Rattle.std.proofs.Math.Option.{Option, none, some}
 use Rattle.laws.specs.Choice.{pick, unless_refused}
 use Rattle.laws.specs.Fill.{listed, at_front}
-use Rattle.rows.specs.declared.Refusal.{Refusal}
+use Rattle.refusals.specs.Refusals.{Refusal}
 use Rattle.grammar.specs.declared.Read.{Read}
 use Rattle.grammar.specs.Grammar.{sheet_length}
 use Rattle.rows.specs.Checks.{words_refusal}
 use Rattle.grammar.specs.Sheets.{between_refusal, form_refusal, read_refused}
 use Rattle.pieces.specs.declared.Reached.{Reached}
 use Rattle.pieces.specs.declared.Pieces.{Pieces}
-use Rattle.pieces.specs.declared.Given.{Given}
-use Rattle.pieces.specs.declared.Given.TheVariants.{NotYet, Answer}
 use Rattle.pieces.specs.declared.Fed.{Fed}
 use Rattle.pieces.specs.declared.Ended.{Ended}
 use Rattle.pieces.specs.Feeding.{announced, fed}
@@ -60,9 +58,12 @@ ended s room = pick (eqb s.ended 0) (record { reached = s.reached; words = s.wor
 unfoldable pub words_after_end : Pieces → List ℕ → List ℕ
 words_after_end s lent = pick (eqb s.ended 0) (end_leaves s.reached s.words lent) lent
 
--- The answer that a state holds: not yet, or the one given.
+-- The answer that a piece finds: none yet, or the one that the end gave.
+abbrev pub Given : Type 0
+Given = Maybe Read
+
 unfoldable pub given : Pieces → Given
-given s = pick (eqb s.ended 0) NotYet (Answer s.answer)
+given s = pick (eqb s.ended 0) None (Some s.answer)
 
 -- What a piece returns, and what the end returns.
 unfoldable pub feeding : Pieces → List ℕ → Fed

@@ -5,6 +5,7 @@
 use grammar::Read;
 
 // How far a sheet has been read: the right bytes taken, whether the byte behind them was wrong (0 where none was), and line one so far.
+// Kept as it is, a number for whether a byte was wrong too: C holds this between two pieces.
 #[repr(C)]
 #[derive(Clone, Copy)]
 pub struct Reached {
@@ -15,6 +16,7 @@ pub struct Reached {
 }
 
 // The state between pieces: how far the sheet has been read, the words of its rows so far, and, once it has ended (0 before), its answer.
+// Kept as it is, the answer beside whether there is one too: C holds this between two pieces.
 #[repr(C)]
 #[derive(Clone, Copy)]
 pub struct Pieces {
@@ -24,18 +26,11 @@ pub struct Pieces {
     pub answer: Read,
 }
 
-// The answer that a piece finds: none yet, or the one that the end gave.
-#[derive(Clone, Copy)]
-pub enum Given {
-    NotYet,
-    Answer(Read),
-}
-
 // What a piece returns: the state behind it, and the answer where the end has been.
 #[derive(Clone, Copy)]
 pub struct Fed {
     pub state: Pieces,
-    pub answer: Given,
+    pub answer: Option<Read>,
 }
 
 // What the end returns: the state behind it, and the answer.

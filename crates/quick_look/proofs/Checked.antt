@@ -4,7 +4,7 @@ use mathlib.Core.Bool.{Bool}
 use Prim.Native.Nat.{ℕ}
 use Rattle.model.specs.Sheet.{Sheet}
 use Rattle.model.proofs.Sheet as sizes
-use Rattle.rows.specs.Checks.{not_refused}
+use Rattle.refusals.specs.Refusals.{not_refused}
 use Rattle.rows.proofs.Fold.{none_held, held_none}
 use Rattle.rows.proofs.Checks.{accepted, accepted-passes, processors_allowed_lem, allowed_processors}
 use Rattle.quick_look.specs.DensityTest.{density_refusal_of, Judgeable}

@@ -1,3 +1,4 @@
 pub mod Checked
 pub mod Promised
 pub mod Summed
+pub mod Told

@@ -14,15 +14,15 @@ use Rattle.model.specs.Density.{left_side, Meets, Judgement, holds, fails, unsur
 use Rattle.model.specs.Alike.{Alike}
 use Rattle.model.proofs.Sheet.{some_rows}
 use Rattle.model.proofs.Density.{density_means, density-fixed, density_says, density_alike, exact_parts, deadlines_whole}
-use Rattle.rows.specs.declared.Refusal.{Refusal}
-use Rattle.rows.specs.Checks.{refused}
+use Rattle.refusals.specs.Refusals.{Refusal}
+use Rattle.refusals.specs.Refusals.{refused}
 use Rattle.rows.specs.Layouts.{Lent, shape_refusal, SameRows}
 use Rattle.rows.proofs.Alike.{laid_refusal_alike}
 use Rattle.rows.proofs.Checks.{shape_refused}
 use Rattle.rows.proofs.Layouts.{same_rows_answered}
 use Rattle.quick_look.specs.declared.Reply.{Reply}
 use Rattle.quick_look.specs.declared.Reply.TheVariants.{Yes, No, Unsure}
-use Rattle.quick_look.specs.declared.DensityAnswer.{DensityAnswer}
+use Rattle.quick_look.specs.DensityTest.{DensityAnswer}
 use Rattle.quick_look.specs.DensityTest.{density_refusal_of, reply_of, judgement_of, reply_number, density_of, density_in, Judgeable, Judges, DensityPromise}
 use Rattle.quick_look.proofs.Checked.{checked, checked_passes}
 

@@ -3,12 +3,17 @@ use Rattle.std.specs.Prelude.{◌≡◌, Bool, false, List, [], ◌∷◌, ℕ, 
 use Rattle.laws.specs.Choice.{unless_refused}
 use Rattle.model.specs.Sheet.{Sheet, Allowed}
 use Rattle.model.specs.Density.{Judgement, holds, fails, unsure, density, InBillionths, Exact, Says}
-use Rattle.rows.specs.declared.Refusal.{Refusal}
+use Rattle.refusals.specs.Refusals.{Refusal}
 use Rattle.rows.specs.Checks.{processors_refusal, first_held, laid_refusal}
 use Rattle.rows.specs.Layouts.{Lent, in_triples}
 use Rattle.quick_look.specs.declared.Reply.{Reply}
 use Rattle.quick_look.specs.declared.Reply.TheVariants.{Yes, No, Unsure}
-use Rattle.quick_look.specs.declared.DensityAnswer.{DensityAnswer}
+
+-- What the test answers: a refusal's number and place, or 0 and 0, and a reply. A refused answer says Unsure.
+pub record DensityAnswer : Type 0 where
+  pub refusal : ℕ
+  pub place : ℕ
+  pub answer : Reply
 
 -- The checks that apply, in number order: 2, 3, 4, 8.
 unfoldable pub density_refusal_of : Bool → Sheet → ℕ → Refusal

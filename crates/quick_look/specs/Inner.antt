@@ -1,7 +1,7 @@
 -- What only inner functions cite: no user need believe it.
-use Rattle.std.specs.Prelude.{◌≡◌, ℕ, ◌+◌, ◌≤◌, max}
+use Rattle.std.specs.Prelude.{ℕ, ◌+◌, ◌≤◌, max}
 use Rattle.laws.specs.Sum.{total, greatest}
-use Rattle.model.specs.Sheet.{Sheet, Allowed}
+use Rattle.model.specs.Sheet.{Sheet}
 use Rattle.model.specs.Density.{rounded_up, rounded_down}
 use Rattle.quick_look.specs.declared.Side.{Side}
 use Rattle.quick_look.specs.declared.Sides.{Sides}
@@ -22,8 +22,3 @@ sides_of s = record { down = side_of (rounded_down s) s.rows; up = side_of (roun
 pub record Small (side : Side) : Type 0 where
   pub sum_small : side.sum ≤ 64_000_000_000
   pub largest_small : side.largest ≤ 1_000_000_000
-
--- An allowed sheet, and how many rows it has.
-pub record Counted (s : Sheet) (count : ℕ) : Type 0 where
-  pub sizes : Allowed s
-  pub counted : count ≡ s.rows

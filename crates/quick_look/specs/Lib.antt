@@ -1,2 +1,3 @@
 pub mod DensityTest
 pub mod Inner
+pub mod Told

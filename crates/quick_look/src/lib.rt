@@ -9,14 +9,6 @@ pub enum Reply {
     Unsure,
 }
 
-// A refusal's number and place, 0 and 0 where there is none; then what the test says. A refused answer says Unsure.
-#[derive(Clone, Copy)]
-pub struct DensityAnswer {
-    pub refusal: u32,
-    pub place: u32,
-    pub answer: Reply,
-}
-
 // Densities of some rows in billionths: their sum and the largest.
 #[derive(Clone, Copy)]
 pub struct Side {

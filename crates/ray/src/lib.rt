@@ -1,146 +1,102 @@
 // Steps down a ray: where sweeps lower the same rows by the same amounts again and again, many of them are made at once.
 #![tactic(auto)]
 
-ghost use Rattle.std.specs.Prelude.{◌≡◌, ℕ, ◌+◌, ◌*◌, ◌-◌, ◌≤◌, ◌<◌, length, get_or};
+ghost use Rattle.std.specs.Prelude.{◌≡◌, ℕ, ◌+◌, ◌*◌, ◌≤◌, ◌<◌, length, get_or};
 ghost use Rattle.model.specs.Inner.{along};
-ghost use Rattle.model.specs.Sheet.{columns};
-ghost use Rattle.rows.specs.Inner.{Even};
-ghost use Rattle.refinement.specs.Question.{Ready};
-ghost use Rattle.refinement.specs.Refinement.{ask_of};
-ghost use Rattle.refinement.specs.Inner.{Running};
-ghost use Rattle.refinement.specs.Inner.Ray.{OnWay, Reaches, Small, Roomy, Lowered, Descended};
+ghost use Rattle.refinement.specs.Asked.{sheet, ask, Underway};
+ghost use Rattle.refinement.specs.Inner.Ray.{OnWay, Reaches, Roomy, Lowered, Descended};
 
-use numbers::{less, lesser};
-use slopes::{Way, cap_line, steps_below, sum_of_lines};
+use bounded::Bounded;
+use refinement::Asked;
+pub use slopes::Drops;
+use slopes::{Capped, Ray, Way, steps_below};
 
 // For how many steps a row's turn allows the next one: its sum stays below what it has left.
-pub fn row_reach(
-    costs: &[u32],
-    deadlines: &[u32],
-    periods: &[u32],
-    bounds: &[u32],
-    drops: &[u32],
-    row: u32,
-    count: u32,
-    processors: u32,
-    method: u32,
-    most: u32,
-) -> u32
-    requires { let s = columns costs.now deadlines.now periods.now in OnWay s bounds.now drops.now row most × (count ≡ s.rows) × (1 ≤ processors) × (processors ≤ 64) × Even costs.now deadlines.now periods.now }
-    ensures { let s = columns costs.now deadlines.now periods.now in Reaches s (ask_of s processors method) bounds.now drops.now row most result }
+pub fn row_reach(given: &Bounded, drops: &Drops, row: u32, most: u32) -> u32
+    requires { OnWay (sheet given.now.asked) given.now.bounds.now drops.now.each row most }
+    ensures { Reaches (sheet given.now.asked) (ask given.now.asked) given.now.bounds.now drops.now.each row most result }
 {
     if most == 0 {
         return 0;
     }
-    let at = row as usize;
-    let fall = drops[at];
-    let first = bounds[at] - fall;
+    let asked = given.asked;
+    let fall = drops.each[row as usize];
+    let first = given.bound(row) - fall;
     let way = Way {
-        row: row,
-        window: deadlines[at],
-        first: first,
-        fall: fall,
-        most: most,
-        method: method,
+        ray: Ray {
+            rows: asked.rows,
+            bounds: given.bounds,
+            drops,
+        },
+        row,
+        window: given.deadline(row),
+        first,
+        fall,
+        most,
+        method: asked.method,
     };
-    let cap = cap_line(costs, deadlines, periods, bounds, drops, way);
-    let line = sum_of_lines(costs, deadlines, periods, bounds, drops, count, way, cap);
-    steps_below(
-        line,
-        processors * fall,
-        processors * (first - costs[at] + 1),
-    )
+    let cap = way.cap();
+    let line = Capped { way: &way, cap }.sum();
+    let left = first - given.cost(row) + 1;
+    steps_below(line, asked.processors * fall, asked.processors * left)
 }
 
 // How many of its drops a row has above its cost.
-pub fn row_room(
-    costs: &[u32],
-    deadlines: &[u32],
-    periods: &[u32],
-    bounds: &[u32],
-    drops: &[u32],
-    row: u32,
-) -> u32
-    requires { let s = columns costs.now deadlines.now periods.now in Ready s bounds.now × (length drops.now ≡ s.rows) × (row < s.rows) × Even costs.now deadlines.now periods.now }
-    ensures { result * get_or drops.now row 0 + (columns costs.now deadlines.now periods.now).cost row ≤ get_or bounds.now row 0 }
+pub fn row_room(given: &Bounded, drops: &Drops, row: u32) -> u32
+    requires { row < (sheet given.now.asked).rows }
+    ensures { result * get_or drops.now.each row 0 + (sheet given.now.asked).cost row ≤ get_or given.now.bounds.now row 0 }
 {
-    let at = row as usize;
-    let drop = drops[at];
+    let drop = drops.each[row as usize];
     if drop == 0 {
         return 1_000_000;
     }
-    (bounds[at] - costs[at]) / drop
+    (given.bound(row) - given.cost(row)) / drop
 }
 
 // How many steps every row has room for.
-pub fn most_steps(
-    costs: &[u32],
-    deadlines: &[u32],
-    periods: &[u32],
-    bounds: &[u32],
-    drops: &[u32],
-    count: u32,
-) -> u32
-    requires { let s = columns costs.now deadlines.now periods.now in Ready s bounds.now × (count ≡ s.rows) × (length drops.now ≡ count) × Even costs.now deadlines.now periods.now }
-    ensures { Roomy (columns costs.now deadlines.now periods.now) bounds.now drops.now result }
+pub fn most_steps(given: &Bounded, drops: &Drops) -> u32
+    ensures { Roomy (sheet given.now.asked) given.now.bounds.now drops.now.each result }
 {
-    let mut most = 1_000_000;
-    let mut row = 0;
-    while row < count {
-        most = lesser(
-            most,
-            row_room(costs, deadlines, periods, bounds, drops, row),
-        );
-        row += 1;
+    let mut most: u32 = 1_000_000;
+    for row in 0..given.count() {
+        most = most.min(row_room(given, drops, row));
     }
     most
 }
 
 // One step down the ray, row by row, as long as each row's turn allows it, and how many more may be made at once. A row that is not
 // allowed its drop loses it, and the ray ends there.
-pub fn ray_pass(
-    costs: &[u32],
-    deadlines: &[u32],
-    periods: &[u32],
-    bounds: &mut [u32],
-    drops: &mut [u32],
-    processors: u32,
-    method: u32,
-    count: u32,
-    most: u32,
-) -> u32
-    requires { let s = columns costs.now deadlines.now periods.now in Running s bounds.old count processors method × Small s.rows drops.old × Roomy s bounds.old drops.old most × Even costs.now deadlines.now periods.now }
-    ensures { let s = columns costs.now deadlines.now periods.now in Lowered s (ask_of s processors method) bounds.old bounds.new drops.new result }
+pub fn ray_pass(asked: &Asked, bounds: &mut [u32], drops: &mut Drops, most: u32) -> u32
+    requires { Underway asked.now bounds.old × Roomy (sheet asked.now) bounds.old drops.old.each most }
+    ensures { Lowered (sheet asked.now) (ask asked.now) bounds.old bounds.new drops.new.each result }
 {
     let mut steps = most;
-    let mut row = 0;
-    while row < count {
-        let drop = drops[row as usize];
+    for row in 0..asked.rows.count() {
+        let drop = drops.each[row as usize];
         if drop != 0 {
-            let reach = row_reach(
-                costs, deadlines, periods, bounds, drops, row, count, processors, method, steps,
-            );
+            let given = Bounded {
+                asked: *asked,
+                bounds,
+            };
+            let reach = row_reach(&given, drops, row, steps);
             if reach == 0 {
-                drops[row as usize] = 0;
+                drops.put(row, 0);
                 return 0;
             }
             steps = reach;
-            bounds[row as usize] = bounds[row as usize] - drop;
+            bounds[row as usize] -= drop;
         }
-        row += 1;
     }
-    less(steps, 1)
+    steps.saturating_sub(1)
 }
 
 // So many steps down at once, for every row.
-pub fn step_down(bounds: &mut [u32], drops: &[u32], count: u32, steps: u32)
-    requires { (length bounds.old ≡ count) × (length drops.now ≡ count) × ((i : ℕ) → i < count → (steps * get_or drops.now i 0 ≤ get_or bounds.old i 0) × (get_or bounds.old i 0 ≤ 1_000_000)) }
-    ensures { bounds.new ≡ along count bounds.old drops.now steps }
+pub fn step_down(bounds: &mut [u32], drops: &Drops, steps: u32)
+    requires { (length bounds.old ≤ 64) × ((i : ℕ) → i < length bounds.old → steps * get_or drops.now.each i 0 ≤ get_or bounds.old i 0) }
+    ensures { bounds.new ≡ along (length bounds.old) bounds.old drops.now.each steps }
 {
-    let mut row = 0;
-    while row < count {
-        bounds[row as usize] = bounds[row as usize] - steps * drops[row as usize];
-        row += 1;
+    for (row, bound) in bounds.iter_mut().enumerate() {
+        *bound -= steps * drops.each[row];
     }
 }
 
@@ -149,101 +105,62 @@ pub fn step_down(bounds: &mut [u32], drops: &[u32], count: u32, steps: u32)
 pub fn next_drop(seen: u32, before: u32, bound: u32, cost: u32, sweeps: u32) -> u32
     ensures { result ≤ bound }
 {
-    let last = less(before, bound);
-    let kept = if sweeps < 4 { lesser(seen, last) } else { last };
-    let drop = if sweeps == 0 { last } else { kept };
-    if less(bound, cost) < drop { 0 } else { drop }
+    let last = before.saturating_sub(bound);
+    let drop = match sweeps {
+        1..=3 => seen.min(last),
+        _ => last,
+    };
+    let room = bound.saturating_sub(cost);
+    if room < drop { 0 } else { drop }
 }
 
 // Guesses every row's next drop after a sweep, from the bounds before it.
-pub fn note_drops(
-    costs: &[u32],
-    deadlines: &[u32],
-    periods: &[u32],
-    bounds: &[u32],
-    before: &[u32],
-    drops: &mut [u32],
-    count: u32,
-    sweeps: u32,
-)
-    requires { let s = columns costs.now deadlines.now periods.now in Ready s bounds.now × (count ≡ s.rows) × (length drops.old ≡ count) × (length before.now ≡ count) × Even costs.now deadlines.now periods.now }
-    ensures { Small (columns costs.now deadlines.now periods.now).rows drops.new }
+pub fn note_drops(given: &Bounded, before: &[u32], drops: &mut Drops, sweeps: u32)
+    requires { length before.now ≡ (sheet given.now.asked).rows }
 {
-    let mut row = 0;
-    while row < count {
+    for row in 0..given.count() {
         let at = row as usize;
-        drops[at] = next_drop(drops[at], before[at], bounds[at], costs[at], sweeps);
-        row += 1;
+        let bound = given.bounds[at];
+        let drop = next_drop(drops.each[at], before[at], bound, given.cost(row), sweeps);
+        drops.put(row, drop);
     }
 }
 
 // One ray: a pass, and the further steps that it found to be allowed, whose number is returned.
-pub fn ray_once(
-    costs: &[u32],
-    deadlines: &[u32],
-    periods: &[u32],
-    bounds: &mut [u32],
-    drops: &mut [u32],
-    processors: u32,
-    method: u32,
-    count: u32,
-) -> u32
-    requires { let s = columns costs.now deadlines.now periods.now in Running s bounds.old count processors method × Small s.rows drops.old × Even costs.now deadlines.now periods.now }
-    ensures { let s = columns costs.now deadlines.now periods.now in Descended s (ask_of s processors method) bounds.old bounds.new drops.new }
+pub fn ray_once(asked: &Asked, bounds: &mut [u32], drops: &mut Drops) -> u32
+    requires { Underway asked.now bounds.old }
+    ensures { Descended (sheet asked.now) (ask asked.now) bounds.old bounds.new }
 {
-    let most = most_steps(costs, deadlines, periods, bounds, drops, count);
-    let further = ray_pass(
-        costs, deadlines, periods, bounds, drops, processors, method, count, most,
-    );
-    step_down(bounds, drops, count, further);
+    let given = Bounded {
+        asked: *asked,
+        bounds,
+    };
+    let most = most_steps(&given, drops);
+    let further = ray_pass(asked, bounds, drops, most);
+    step_down(bounds, drops, further);
     further
 }
 
 // Rays until one goes further than a step, or every row may have lost its drop.
-pub fn descend(
-    costs: &[u32],
-    deadlines: &[u32],
-    periods: &[u32],
-    bounds: &mut [u32],
-    drops: &mut [u32],
-    processors: u32,
-    method: u32,
-    count: u32,
-)
-    requires { let s = columns costs.now deadlines.now periods.now in Running s bounds.old count processors method × Small s.rows drops.old × Even costs.now deadlines.now periods.now }
-    ensures { let s = columns costs.now deadlines.now periods.now in Descended s (ask_of s processors method) bounds.old bounds.new drops.new }
+pub fn descend(asked: &Asked, bounds: &mut [u32], drops: &mut Drops)
+    requires { Underway asked.now bounds.old }
+    ensures { Descended (sheet asked.now) (ask asked.now) bounds.old bounds.new }
 {
-    let mut tries = count;
-    while 0 < tries {
-        let further = ray_once(
-            costs, deadlines, periods, bounds, drops, processors, method, count,
-        );
+    for _ in 0..asked.rows.count() {
+        let further = ray_once(asked, bounds, drops);
         if 0 < further {
             return;
         }
-        tries -= 1;
     }
 }
 
 // After every fourth sweep the drops noted are followed down; else nothing is done.
-pub fn hasten(
-    costs: &[u32],
-    deadlines: &[u32],
-    periods: &[u32],
-    bounds: &mut [u32],
-    drops: &mut [u32],
-    processors: u32,
-    method: u32,
-    count: u32,
-    sweeps: u32,
-)
-    requires { let s = columns costs.now deadlines.now periods.now in Running s bounds.old count processors method × Small s.rows drops.old × Even costs.now deadlines.now periods.now }
-    ensures { let s = columns costs.now deadlines.now periods.now in Descended s (ask_of s processors method) bounds.old bounds.new drops.new }
+pub fn hasten(asked: &Asked, bounds: &mut [u32], drops: &mut Drops, sweeps: u32)
+    requires { Underway asked.now bounds.old }
+    ensures { Descended (sheet asked.now) (ask asked.now) bounds.old bounds.new }
 {
     if sweeps % 4 != 0 {
         return;
     }
-    descend(
-        costs, deadlines, periods, bounds, drops, processors, method, count,
-    );
+    descend(asked, bounds, drops);
 }

@@ -15,11 +15,11 @@ use Rattle.model.specs.Alike.{Alike}
 use Rattle.model.specs.Answer.{method_of}
 use Rattle.model.specs.Refine.{rounds, marks}
 use Rattle.model.proofs.Alike.{same_results}
-use Rattle.rows.specs.declared.Refusal.{Refusal}
+use Rattle.refusals.specs.Refusals.{Refusal}
 use Rattle.rows.specs.Words.{found_of}
 use Rattle.rows.specs.Checks.{processors_refusal, method_refusal, first_held}
 use Rattle.rows.proofs.Alike.{laid_refusal_alike}
-use Rattle.refinement.specs.declared.OneRow.{OneRow}
+use Rattle.refinement.specs.Question.{OneRow}
 use Rattle.refinement.specs.Question.{bound_allowed, question_allowed, question_refusal, one_row_refusal_of, one_row_of}
 use Rattle.refinement.proofs.Question.{one_row_answered, one_row_refused}
 use Rattle.refinement.specs.Refinement.{ask_of, refine_refusal_of, Engine, EndsAlike, final_bounds, final_marks, handed, refined_of, refined_space_of}

@@ -6,7 +6,7 @@ use native.Mathlib.Omega.{arith}
 use Rattle.model.specs.Sheet.{Sheet}
 use Rattle.model.specs.Answer.{bcl_answer, rta_answer, method_of, answer}
 use Rattle.model.proofs.Answer.{method_zero, method_other, answer-within}
-use Rattle.rows.specs.declared.Found.{Found}
+use Rattle.rows.specs.Words.{Found}
 use Rattle.rows.specs.Words.{found_of, bound_or, found_from}
 use Rattle.rows.proofs.Words.{found_back}
 use Rattle.model.proofs.Sheet.{row_sized}

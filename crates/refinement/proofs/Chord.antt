@@ -3,22 +3,19 @@
 use mathlib.Core.Path.{◌≡◌}
 use mathlib.Core.List.{List}
 use Prim.Native.Nat.{ℕ, ◌+◌, ◌*◌, ◌-◌, ◌/◌, ◌≤◌, ◌<◌, min}
-use native.Mathlib.Nat.{add-zero, div-mul-le_self, div-le_of_le-mul, mul-le-mul_right, mul-add, mul_assoc}
+use native.Mathlib.Nat.{add-zero, div-mul-le_self, mul-add, mul_assoc}
 use native.Mathlib.Omega.{arith}
 use Rattle.laws.specs.Sum.{total}
 use Rattle.laws.proofs.Sum.{total_mono, total-same}
 use Rattle.laws.proofs.Concave.{Concave, concave_same, concave_self, concave_add, concave_times, concave_min, concave_total, total_times, above_line}
 use Rattle.model.proofs.Rise.{slope_below}
-use Rattle.refinement.specs.Inner.Kept.{cost_at, period_at, ahead_at, share_at, term_at, line_at, KeptRows, kept_sum, Excluded}
+use Rattle.refinement.specs.declared.other.Other.{Other}
+use Rattle.refinement.specs.Inner.Kept.{row_at, term_at, line_at, KeptRows, kept_sum, Excluded}
 
 -- No line is above the cap.
-pub line-within_cap : (l : List ℕ) (x cap j : ℕ) → line_at l x cap j ≤ 4_294_967_296 * cap
+pub line-within_cap : (l : List Other) (x cap j : ℕ) → line_at l x cap j ≤ 4_294_967_296 * cap
 unfolding line_at
 line-within_cap l x cap j = omega arith
-
--- A slope is at most one whole.
-pub slope_small : (c t : ℕ) → c ≤ t → c * 4_294_967_296 / t ≤ 4_294_967_296
-slope_small c t within = div-le_of_le-mul t (mul-le-mul_right 4_294_967_296 within)
 
 -- The line with a level and a slope, d later, within share and cap.
 later : ℕ → ℕ → ℕ → ℕ → ℕ → ℕ
@@ -32,26 +29,29 @@ later_concave slope time share cap =
     (concave_times 4_294_967_296 (λ d. min share (cap + d))
     (concave_min (λ d. share) (λ d. cap + d) (concave_same share) (concave_add (λ d. cap) (λ d. d) (concave_same cap) concave_self)))
 
-module _ (l : List ℕ) (left : ℕ) (rows : KeptRows l left) where
+module _ (l : List Other) (left : ℕ) (rows : KeptRows l left) where
   -- A line is below its term.
   line_below : (j x cap : ℕ) → j < left → line_at l x cap j ≤ 4_294_967_296 * term_at l x cap j
   unfolding line_at term_at
   line_below j x cap h =
+      let o = row_at l j in
       let row = rows.each j h in
       omega (
         arith,
-        slope_below (cost_at l j) (period_at l j) (x + ahead_at l j) (cost_at l j * 4_294_967_296 / period_at l j) 4_294_967_296 row.sizes.by_period
-            (omega (arith, row.sizes.some_cost, row.sizes.by_period)) (div-mul-le_self (cost_at l j * 4_294_967_296) (period_at l j)),
+        slope_below o.cost o.period (x + o.ahead) (o.cost * 4_294_967_296 / o.period) 4_294_967_296 row.sizes.by_period
+            (omega (arith, row.sizes.some_cost, row.sizes.by_period)) (div-mul-le_self (o.cost * 4_294_967_296) o.period),
       )
 
   -- Row j's line, d steps later.
   later_of : (x cap j d : ℕ) → ℕ
-  later_of x cap j = later (cost_at l j * 4_294_967_296 / period_at l j) (x + ahead_at l j) (share_at l j) cap
+  later_of x cap j =
+      let o = row_at l j in
+      later (o.cost * 4_294_967_296 / o.period) (x + o.ahead) o.share cap
 
   line_later : (x cap j d : ℕ) → line_at l (x + d) (cap + d) j ≡ later_of x cap j d
   unfolding line_at later_of later
   line_later x cap j d =
-      let time : x + d + ahead_at l j ≡ x + ahead_at l j + d = omega arith in
+      let time : x + d + (row_at l j).ahead ≡ x + (row_at l j).ahead + d = omega arith in
       rw time
 
   -- What the lines exclude at both ends they exclude between them.

@@ -18,12 +18,12 @@ use Rattle.model.proofs.Engines.{marks_say, unmarked_deadline, largest_unique}
 use Rattle.model.proofs.Methods.{engines_agree, rta_dominates}
 use Rattle.model.proofs.Refine.{turn_from_cost, turn_by_deadline}
 use Rattle.model.proofs.Sheet.{row_sized}
-use Rattle.rows.specs.declared.Refusal.{Refusal}
-use Rattle.rows.specs.declared.Found.{Found}
-use Rattle.rows.specs.declared.Found.TheVariants.{At, Nowhere}
+use Rattle.refusals.specs.Refusals.{Refusal}
+use Rattle.rows.specs.Words.{Found}
+use Rattle.std.specs.declared.option.Option.TheVariants.{Some, None}
 use Rattle.rows.specs.Words.{found_of}
 use Rattle.refinement.specs.declared.Refined.{Refined}
-use Rattle.refinement.specs.declared.OneRow.{OneRow}
+use Rattle.refinement.specs.Question.{OneRow}
 use Rattle.refinement.specs.Refinement.{ask_of, refine_refusal_of, final_bounds, final_marks, handed, refined_of, refined_space_of, EntriesAgree, Settled, NoWorse, Engine, AskedAgain, EndsAlike}
 use Rattle.refinement.specs.Question.{one_row_refusal_of, Ready, Posed}
 use Rattle.refinement.proofs.Refinement.{rounds-length, handed_whole, refine_answered, refining, refined-number}
@@ -62,10 +62,10 @@ final_ready s m method sizes =
     }
 
 -- The answer under the final bounds, by whether there is one.
-told_again : (o : Option ℕ) (deadline bound : ℕ) → bound ≡ or_else o deadline → found_of o ≡ pick (eqb (bit (is_some o)) 1) (At bound) Nowhere
+told_again : (o : Option ℕ) (deadline bound : ℕ) → bound ≡ or_else o deadline → found_of o ≡ pick (eqb (bit (is_some o)) 1) (Some bound) None
 unfolding found_of
 told_again none deadline bound is_bound = refl
-told_again (some x) deadline bound is_bound = ap At (sym is_bound)
+told_again (some x) deadline bound is_bound = ap Some (sym is_bound)
 
 module _ (refusal : Refusal) (s : Sheet) (m method : ℕ) (out : List ℕ) (passed : refusal.number ≡ 0) where
   -- What is answered and written where nothing is refused.

@@ -5,10 +5,8 @@ use mathlib.Core.List.{List}
 use mathlib.Core.Logic.{◌⊎◌, inl, inr, ⊎_elim}
 use Prim.Native.Nat.{ℕ, ◌+◌, ◌*◌, ◌-◌, ◌≤◌, ◌<◌, zero-le}
 use native.Mathlib.Nat.{le_trans, le_refl, mul-le-mul, zero-mul, add-le-add}
-use native.Mathlib.Decide.{ℕ_discrete}
 use native.Mathlib.Omega.{arith}
 use lib.ListN.{length, get_or, set, length-set}
-use lib.Seq.{get_or-set_same, get_or-set_other}
 use Rattle.laws.specs.Fill.{Below}
 use Rattle.laws.proofs.Order.{below_or_from}
 use Rattle.model.specs.Sheet.{Sheet}
@@ -17,14 +15,14 @@ use Rattle.model.specs.Inner.{along, Held}
 use Rattle.model.proofs.Refine.{Regular}
 use Rattle.model.proofs.Ray.{next_step, within, within_gone, within_left, stage_at, along-none, along_lower, OnRay, ray_bound, ray_on, ray_skip, ray_ahead}
 use Rattle.model.proofs.Sheet.{row_sized}
-use Rattle.refinement.specs.Inner.Ray.{OnWay, Reaches, Small, Roomy, Lowered, Descended}
+use Rattle.refinement.specs.Inner.Ray.{OnWay, Reaches, Roomy, Lowered, Descended}
 use Rattle.refinement.specs.Inner.{Running}
 use Rattle.refinement.specs.Refinement.{ask_of}
 use Rattle.refinement.specs.Question.{Ready}
 use Rattle.refinement.proofs.Steps.{ready_lower, running_lower}
 
 module _ (s : Sheet) (ask : Ask) (regular : Regular s ask) (R drops : List ℕ) (most : ℕ) (ready : Ready s R)
-    (small : Small s.rows drops) (roomy : Roomy s R drops most) where
+    (roomy : Roomy s R drops most) where
   -- Where a row stands before its first step or behind it.
   row_now : (k i : ℕ) (now : List ℕ) (steps : ℕ) → OnRay s ask R drops k steps now → i < s.rows
       → (get_or now i 0 ≡ get_or R i 0 - get_or drops i 0) ⊎ (get_or now i 0 ≡ get_or R i 0)
@@ -53,7 +51,6 @@ module _ (s : Sheet) (ask : Ask) (regular : Regular s ask) (R drops : List ℕ) 
       record {
         ready = ray_ready k steps now on;
         inside = inside;
-        drops_small = small;
         room = λ t h i here. has_room t i here h;
         own = rw (ray_bound s ask regular R drops k steps now on inside)
             (le_trans (add-le-add (mul-le-mul fewer (le_refl (get_or drops k 0))) (le_refl _)) (roomy k inside));
@@ -66,21 +63,15 @@ module _ (s : Sheet) (ask : Ask) (regular : Regular s ask) (R drops : List ℕ) 
           (λ (left : get_or now i 0 ≡ get_or R i 0). omega (arith, roomy i here, next_step t (get_or drops i 0)))
           (row_now k i now steps on here)
 
-  -- A row that loses its drop ends the pass where it stands.
-  pub ray_lost : (k steps : ℕ) (now : List ℕ) → OnRay s ask R drops k steps now → k < s.rows
-      → Lowered s ask R now (set drops k 0) 0
-  ray_lost k steps now on inside =
+  -- A row that is not allowed its drop ends the pass where it stands, whatever drops are left.
+  pub ray_lost : (k steps : ℕ) (now left : List ℕ) → OnRay s ask R drops k steps now → Lowered s ask R now left 0
+  ray_lost k steps now left on =
       record {
         below = ray_below k steps now on;
-        drops_small = record { one_each = length-set drops k 0 ∙ small.one_each; each = λ i h. lost i h (ℕ_discrete i k) };
-        room = λ i h. omega (arith, zero-mul (get_or (set drops k 0) i 0));
+        room = λ i h. omega (arith, zero-mul (get_or left i 0));
         one_each = on.held.one_each;
-        ahead = rw (along-none s.rows now (set drops k 0) on.held.one_each) on.held;
+        ahead = rw (along-none s.rows now left on.held.one_each) on.held;
       }
-    where
-      lost : (i : ℕ) → i < s.rows → Dec (i ≡ k) → get_or (set drops k 0) i 0 ≤ 1_000_000
-      lost i h (yes here) = rw (here, get_or-set_same drops k 0 0 (rw small.one_each inside)) zero-le
-      lost i h (no other) = rw (get_or-set_other drops k i 0 0 other) (small.each i h)
 
   -- Behind the last row the other steps may be made at once.
   pub ray_done : (k steps : ℕ) (now : List ℕ) → Held s ask R → OnRay s ask R drops k steps now → steps ≤ most
@@ -88,7 +79,6 @@ module _ (s : Sheet) (ask : Ask) (regular : Regular s ask) (R drops : List ℕ) 
   ray_done k steps now held on fewer all further is_rest =
       record {
         below = ray_below k steps now on;
-        drops_small = small;
         room = has_room;
         one_each = on.held.one_each;
         ahead = rw is_rest
@@ -135,31 +125,28 @@ lowered_small s R ready after below i inside =
 
 -- The further steps of a pass, made.
 pub lowered_down : (s : Sheet) (ask : Ask) (R after drops : List ℕ) (further : ℕ) → Lowered s ask R after drops further
-    → (count : ℕ) → count ≡ s.rows → (final : List ℕ) → final ≡ along count after drops further → Descended s ask R final drops
+    → (count : ℕ) → count ≡ s.rows → (final : List ℕ) → final ≡ along count after drops further → Descended s ask R final
 lowered_down s ask R after drops further lowered count counted final made =
     let last : final ≡ along s.rows after drops further = made ∙ ap (λ (n : ℕ). along n after drops further) counted in
     record {
       held = rw last lowered.ahead;
       below = λ i h. rw last (le_trans (along_lower s.rows after drops further i h) (lowered.below i h));
-      drops_small = lowered.drops_small;
     }
 
 -- Going down not at all, and going down further.
-pub descended_none : (s : Sheet) (ask : Ask) (R drops : List ℕ) → Held s ask R → Small s.rows drops
-    → Descended s ask R R drops
-descended_none s ask R drops held small = record { held = held; below = λ i h. le_refl (get_or R i 0); drops_small = small }
+pub descended_none : (s : Sheet) (ask : Ask) (R : List ℕ) → Held s ask R → Descended s ask R R
+descended_none s ask R held = record { held = held; below = λ i h. le_refl (get_or R i 0) }
 
-pub descended_more : (s : Sheet) (ask : Ask) (R now drops lower left : List ℕ) → Descended s ask R now drops
-    → Descended s ask now lower left → Descended s ask R lower left
-descended_more s ask R now drops lower left before after =
-    record { held = after.held; below = λ i h. le_trans (after.below i h) (before.below i h); drops_small = after.drops_small }
+pub descended_more : (s : Sheet) (ask : Ask) (R now lower : List ℕ) → Descended s ask R now → Descended s ask now lower → Descended s ask R lower
+descended_more s ask R now lower before after =
+    record { held = after.held; below = λ i h. le_trans (after.below i h) (before.below i h) }
 
 -- One bound a row, before and after.
-pub descended_length : (s : Sheet) (ask : Ask) (R now drops : List ℕ) → Ready s R → Descended s ask R now drops → length now ≡ length R
-descended_length s ask R now drops ready descended = descended.held.one_each ∙ sym ready.one_each
+pub descended_length : (s : Sheet) (ask : Ask) (R now : List ℕ) → Ready s R → Descended s ask R now → length now ≡ length R
+descended_length s ask R now ready descended = descended.held.one_each ∙ sym ready.one_each
 
 -- What going down leaves is on the way.
-pub descended_running : (s : Sheet) (R now drops : List ℕ) (count m method : ℕ) → Running s R count m method
-    → Descended s (ask_of s m method) R now drops → Running s now count m method
-descended_running s R now drops count m method running descended =
+pub descended_running : (s : Sheet) (R now : List ℕ) (count m method : ℕ) → Running s R count m method
+    → Descended s (ask_of s m method) R now → Running s now count m method
+descended_running s R now count m method running descended =
     running_lower s R now count m method running descended.held descended.below

@@ -1,17 +1,17 @@
 -- Why a jump skips no solution: each term rises one a step to its room, so the sum is not below a concave function of the steps.
 use mathlib.Core.Path.{◌≡◌, ap}
-use mathlib.Core.List.{List, ◌++◌}
+use mathlib.Core.List.{List}
 use mathlib.Core.Logic.{⊎_elim}
 use Prim.Native.Nat.{ℕ, ◌+◌, ◌*◌, ◌-◌, ◌/◌, ◌≤◌, ◌<◌, min}
 use native.Mathlib.Nat.{le_trans, le-min, le_refl, le-div_iff_mul-le, mul_comm, eq-or-lt_of_le}
 use native.Mathlib.Decide.{ℕ_discrete}
 use native.Mathlib.Omega.{arith}
 use borrow.Author.Tests.{eq-eqb, ne_eqb}
-use lib.ListN.{length, get_or, drop}
+use lib.ListN.{length, get_or}
 use Rattle.laws.specs.Fill.{listed}
 use Rattle.laws.proofs.Choice.{pick_yes, pick_no}
 use Rattle.laws.proofs.Sum.{total_mono, total-same}
-use Rattle.laws.proofs.Fill.{listed_front}
+use Rattle.laws.proofs.Fill.{listed-length, listed_at}
 use Rattle.laws.proofs.Concave.{none_skipped}
 use Rattle.laws.proofs.Climb.{Climbed, climbed_stretch}
 use Rattle.model.specs.Sheet.{Sheet}
@@ -20,7 +20,8 @@ use Rattle.model.proofs.Interference.{rta_right_rises}
 use Rattle.model.proofs.Rise.{carried-within, carried_rises, carried_full}
 use Rattle.refinement.specs.Inner.{reach, Rooms, Jumped}
 use Rattle.refinement.proofs.Limits.{not_passed}
-use Rattle.refinement.specs.Inner.Kept.{cost_at, period_at, ahead_at, share_at, term_from, term_at, top_at, room_at, KeptRows, kept_sum, Met, Excluded}
+use Rattle.refinement.specs.declared.other.Other.{Other}
+use Rattle.refinement.specs.Inner.Kept.{row_at, term_from, top_from, term_at, top_at, room_at, KeptRows, kept_sum, Met, Excluded}
 
 -- What holds in both cases holds of what a term comes to for certain.
 pub by_period : (P : ℕ → Type 0) (c t whole share : ℕ) → (c ≡ t → P share) → P (min (whole + c) share) → P (reach c t whole share)
@@ -52,75 +53,75 @@ term_up : (a top work later share cap d : ℕ) → a ≤ work → a ≤ cap → 
 term_up a top work later share cap d by_work by_cap by_top shared certain =
     le-min (le_trans (omega arith) certain) (le-min (omega arith) (omega arith))
 
--- One row's term, its room and its later term, over plain numbers.
-pub one_rises : (c t a s x cap d : ℕ) → 1 ≤ t
-    → term_from c t a s x cap + min d (reach c t ((x + a) / t * c) s - term_from c t a s x cap) ≤ term_from c t a s (x + d) (cap + d)
-one_rises c t a s x cap d some_period =
-    let y = x + a in
-    let later : x + d + a ≡ y + d = omega arith in
+-- One row's term, its room and its later term.
+pub one_rises : (o : Other) (x cap d : ℕ) → 1 ≤ o.period → term_from o x cap + min d (top_from o x - term_from o x cap) ≤ term_from o (x + d) (cap + d)
+one_rises o x cap d some_period =
+    let y = x + o.ahead in
+    let whole = y / o.period * o.cost in
+    let later : x + d + o.ahead ≡ y + d = omega arith in
     rw later
-    (term_up (min (carried c t y) (min s cap)) (reach c t (y / t * c) s) (carried c t y) (carried c t (y + d)) s cap d
-    (omega arith) (omega arith) (reach_above c t y s _ (omega arith) (omega arith)) (reach-within c t (y / t * c) s)
-    (reach_certain c t y s d some_period))
+    (term_up (term_from o x cap) (reach o.cost o.period whole o.share) (carried o.cost o.period y) (carried o.cost o.period (y + d)) o.share cap d
+    (omega arith) (omega arith) (reach_above o.cost o.period y o.share _ (omega arith) (omega arith)) (reach-within o.cost o.period whole o.share)
+    (reach_certain o.cost o.period y o.share d some_period))
 
-module _ (l : List ℕ) (left : ℕ) (rows : KeptRows l left) where
+module _ (l : List Other) (left : ℕ) (rows : KeptRows l left) where
   -- The same of a row of the list.
   term_rises : (j x cap d : ℕ) → j < left → term_at l x cap j + min d (room_at l x cap j) ≤ term_at l (x + d) (cap + d) j
   unfolding term_at room_at top_at
   term_rises j x cap d h =
       let row = rows.each j h in
-      one_rises (cost_at l j) (period_at l j) (ahead_at l j) (share_at l j) x cap d (omega (arith, row.sizes.some_cost, row.sizes.by_period))
+      one_rises (row_at l j) x cap d (omega (arith, row.sizes.some_cost, row.sizes.by_period))
 
   -- A term is within what it comes to, which is within the share.
   pub term_within : (j x cap : ℕ) → j < left → term_at l x cap j ≤ top_at l x j
   unfolding term_at top_at
-  term_within j x cap h = reach_above (cost_at l j) (period_at l j) (x + ahead_at l j) (share_at l j) _ (omega arith) (omega arith)
+  term_within j x cap h =
+      let o = row_at l j in
+      reach_above o.cost o.period (x + o.ahead) o.share _ (omega arith) (omega arith)
 
   pub top_small : (j x : ℕ) → j < left → top_at l x j ≤ 1_000_000
   unfolding top_at
   top_small j x h =
-      omega (
-        arith,
-        (rows.each j h).small_share,
-        reach-within (cost_at l j) (period_at l j) ((x + ahead_at l j) / period_at l j * cost_at l j) (share_at l j),
-      )
+      let o = row_at l j in
+      omega (arith, (rows.each j h).small_share, reach-within o.cost o.period ((x + o.ahead) / o.period * o.cost) o.share)
 
   room_small : (j x cap : ℕ) → j < left → room_at l x cap j ≤ 1_000_000
   unfolding room_at
   room_small j x cap h = omega (arith, top_small j x h)
 
   -- The rooms that were filled in are rooms.
-  pub rooms_filled : (room before : List ℕ) (x cap : ℕ) → left ≤ length room → room ≡ listed (room_at l x cap) left ++ drop left before → Rooms room left
-  rooms_filled room before x cap there filled =
+  pub rooms_filled : (room : List ℕ) (x cap : ℕ) → room ≡ listed (room_at l x cap) left → Rooms room
+  rooms_filled room x cap filled =
+      let size : length room ≡ left = rw filled (listed-length (room_at l x cap) left) in
       record {
-        there = there;
-        few = rows.few;
-        small = λ j h. rw (listed_front (room_at l x cap) left j room (drop left before) filled h) (room_small j x cap h);
+        few = omega (arith, rows.few);
+        small = λ j h. let there : j < left = omega arith in rw (filled, listed_at (room_at l x cap) left j there) (room_small j x cap there);
       }
 
   -- A jump over the rooms passes no solution.
-  pub jump_passes : (room before : List ℕ) (settled m own x gain most far : ℕ) → own ≤ x
-      → room ≡ listed (room_at l x (x - own + 1)) left ++ drop left before
+  pub jump_passes : (room : List ℕ) (settled m own x gain most far : ℕ) → own ≤ x
+      → room ≡ listed (room_at l x (x - own + 1)) left
       → m * (x - own + 1) ≤ kept_sum l left settled x (x - own + 1)
       → gain ≡ kept_sum l left settled x (x - own + 1) - m * (x - own + 1)
-      → Jumped room left gain m most far → Excluded l left settled m own x (x + far + 1)
-  jump_passes room before settled m own x gain most far from filled full is_gain jumped z low high =
+      → Jumped room gain m most far → Excluded l left settled m own x (x + far + 1)
+  jump_passes room settled m own x gain most far from filled full is_gain jumped z low high =
       let cap = x - own + 1 in
       let d = z - x in
       let there : x + d ≡ z = omega arith in
       let later : cap + d ≡ z - own + 1 = omega arith in
       let terms = term_at l x cap in
       let rooms = room_at l x cap in
+      let size : length room ≡ left = rw filled (listed-length rooms left) in
       let at : (i : ℕ) → i < left → min far (get_or room i 0) ≡ min far (rooms i) =
-      λ i h. ap (min far) (listed_front rooms left i room (drop left before) filled h) in
+      λ i h. ap (min far) (rw filled (listed_at rooms left i h)) in
       let same = total-same (λ i. min far (get_or room i 0)) (λ i. min far (rooms i)) left at in
       let rises = total_mono (λ i. terms i + min d (rooms i)) (term_at l (x + d) (cap + d)) left (λ i h. term_rises i x cap d h) in
-      let fills = none_skipped m cap far settled left terms rooms full (omega (arith, jumped.gains, same, is_gain)) d (omega arith) in
+      let fills = none_skipped m cap far settled left terms rooms full (omega (arith, rw size at jumped.gains, same, is_gain)) d (omega arith) in
       let all : m * (cap + d) ≤ kept_sum l left settled (x + d) (cap + d) = omega (arith, rises, fills) in
       rw (there, later) at all
 
 -- What the rows kept add, and the right side of the equation.
-module _ (s : Sheet) (R l : List ℕ) (row left settled x m : ℕ) (met : Met s R l row left settled x) (some_processor : 1 ≤ m) where
+module _ (s : Sheet) (R : List ℕ) (l : List Other) (row left settled x m : ℕ) (met : Met s R l row left settled x) (some_processor : 1 ≤ m) where
   right_from : (z : ℕ) → x ≤ z → rta_right s m row R z ≡ s.cost row + kept_sum l left settled z (z - s.cost row + 1) / m
   unfolding rta_right
   right_from z from = rw (met.same z from)

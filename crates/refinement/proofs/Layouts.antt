@@ -4,9 +4,9 @@ use mathlib.Core.Path.{◌≡◌, sym, ◌∙◌, ap}
 use mathlib.Core.Bool.{Bool}
 use mathlib.Core.List.{List}
 use Prim.Native.Nat.{ℕ}
-use Rattle.rows.specs.declared.Refusal.{Refusal}
-use Rattle.rows.specs.declared.Found.TheVariants.{Nowhere}
-use Rattle.rows.specs.Checks.{refused}
+use Rattle.refusals.specs.Refusals.{Refusal}
+use Rattle.std.specs.declared.option.Option.TheVariants.{None}
+use Rattle.refusals.specs.Refusals.{refused}
 use Rattle.rows.specs.Layouts.{Lent, shape_refusal, SameRows}
 use Rattle.rows.proofs.Checks.{shape_refused}
 use Rattle.refinement.specs.declared.Refined.{Refined}
@@ -54,7 +54,7 @@ module _ (lent : Lent) (m method shape : ℕ) (is_shape : shape ≡ shape_refusa
   unfolding refine_refusal_of
   refine_by_shape room need = ap (λ (n : ℕ). refused n 0) is_shape ∙ sym (shape_refused lent _ not_passed)
 
-  pub one_row_by_shape : (R : List ℕ) (row : ℕ) → one_row_in lent m method R row ≡ record { refusal = shape; place = 0; answer = Nowhere }
+  pub one_row_by_shape : (R : List ℕ) (row : ℕ) → one_row_in lent m method R row ≡ record { refusal = shape; place = 0; answer = None }
   one_row_by_shape R row =
       one_row_refused _ lent.sheet m method R row (refused shape 0)
       (refused_first lent.broken lent.sheet m method R row (refused shape 0)

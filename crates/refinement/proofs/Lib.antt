@@ -14,3 +14,5 @@ pub mod Refinement
 pub mod Demands
 pub mod Alike
 pub mod Layouts
+pub mod Together
+pub mod ByShape

@@ -19,15 +19,16 @@ use Rattle.model.specs.Sheet.{Sheet, Allowed}
 use Rattle.model.specs.Answer.{method_of, answer, Answers}
 use Rattle.model.proofs.Sheet.{allowed_processors, processors_allowed_lem}
 use Rattle.model.proofs.Answer.{answer_means, answer-fixed}
-use Rattle.rows.specs.declared.Found.{Found}
-use Rattle.rows.specs.declared.Found.TheVariants.{At, Nowhere}
-use Rattle.rows.specs.declared.Refusal.{Refusal}
+use Rattle.rows.specs.Words.{Found}
+use Rattle.std.specs.declared.option.Option.TheVariants.{Some, None}
+use Rattle.refusals.specs.Refusals.{Refusal}
 use Rattle.rows.specs.Words.{found_of}
-use Rattle.rows.specs.Checks.{refused, not_refused, processors_refusal, method_refusal, first_held, laid_refusal}
+use Rattle.rows.specs.Checks.{processors_refusal, method_refusal, first_held, laid_refusal}
+use Rattle.refusals.specs.Refusals.{refused, not_refused}
 use Rattle.rows.specs.Inner.{NoneHold}
 use Rattle.rows.proofs.Fold.{none_held, held_none}
 use Rattle.rows.proofs.Checks as checks
-use Rattle.refinement.specs.declared.OneRow.{OneRow}
+use Rattle.refinement.specs.Question.{OneRow}
 use Rattle.refinement.specs.Question.{bound_allowed, question_allowed, question_refusal, one_row_refusal_of, one_row_of, answer_of, OneRowPromise, Ready, Posed, Askable}
 
 -- Rows accepted with own checks that begin with processors and method were posed as every question is, and the checks behind those passed.
@@ -97,8 +98,8 @@ answer_found (some x) = refl
 
 found_answer : (found : Found) → found_of (answer_of found) ≡ found
 unfolding answer_of found_of
-found_answer (At x) = refl
-found_answer Nowhere = refl
+found_answer (Some x) = refl
+found_answer None = refl
 
 -- A result is its number, its place and its answer.
 abbrev made : ℕ → ℕ → Found → OneRow
@@ -158,7 +159,7 @@ module _ (refusal : Refusal) (s : Sheet) (m method : ℕ) (R : List ℕ) (row : 
   one_row_answered zero = not-refused _ _ _ zero
 
   pub one_row_refused : (given : Refusal) → given ≡ refusal → (given.number ≡ 0 → ⊥)
-      → one_row_of refusal s m method R row ≡ record { refusal = given.number; place = given.place; answer = Nowhere }
+      → one_row_of refusal s m method R row ≡ record { refusal = given.number; place = given.place; answer = None }
   unfolding one_row_of
   one_row_refused given is_given refused_it_is = rw (← is_given) (is_refused _ _ _ refused_it_is)
 
@@ -194,7 +195,7 @@ module _ (broken : Bool) (s : Sheet) (m method : ℕ) (R : List ℕ) (row : ℕ)
   unfolding one_row_of
   one_row_keeps =
       let carries =
-      kept _ _ _ made parts _ _ Nowhere (found_of (answer (method_of method) s m row R)) Meant no_place
+      kept _ _ _ made parts _ _ None (found_of (answer (method_of method) s m row R)) Meant no_place
       (λ zero. rw answer_found (answer_means s m row R (method_of method))) in
       record { number = carries.numbered; place = carries.placed; answered = carries.means; nothing = carries.nothing }
 
@@ -202,7 +203,7 @@ module _ (broken : Bool) (s : Sheet) (m method : ℕ) (R : List ℕ) (row : ℕ)
   pub one_row_fixed : (r : OneRow) → OneRowPromise table s m method R row r → r ≡ said
   unfolding one_row_of
   one_row_fixed r promise =
-      fixed _ _ _ made parts _ _ Nowhere (found_of (answer (method_of method) s m row R)) Meant no_place
+      fixed _ _ _ made parts _ _ None (found_of (answer (method_of method) s m row R)) Meant no_place
       (λ zero found meant.
       sym (found_answer found) ∙ ap found_of (sym (answer-fixed s m row R (method_of method) (answer_of found) meant))) r
       (record { numbered = promise.number; placed = promise.place; means = promise.answered; nothing = promise.nothing })

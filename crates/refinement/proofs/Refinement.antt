@@ -13,8 +13,9 @@ use Rattle.model.specs.Refine.{deadlines, rounds, at_once}
 use Rattle.model.proofs.Refine.{deadlines_held}
 use Rattle.model.proofs.Engines.{rounds_largest, at_once_largest}
 use Rattle.model.proofs.Sheet.{row_sized}
-use Rattle.rows.specs.declared.Refusal.{Refusal}
-use Rattle.rows.specs.Checks.{processors_refusal, method_refusal, room_refusal, first_of, laid_refusal, not_refused}
+use Rattle.refusals.specs.Refusals.{Refusal}
+use Rattle.rows.specs.Checks.{processors_refusal, method_refusal, room_refusal, first_of, laid_refusal}
+use Rattle.refusals.specs.Refusals.{not_refused}
 use Rattle.rows.proofs.Fold.{held_last, held_more}
 use Rattle.rows.proofs.Checks.{room_enough, enough_room}
 use Rattle.refinement.specs.declared.Refined.{Refined}

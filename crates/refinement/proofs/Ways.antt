@@ -158,9 +158,9 @@ module _ (s : Sheet) (R drops : List ℕ) (row most : ℕ) (way : OnWay s R drop
       }
 
   pub cap_with_row : (method window first fall cost : ℕ) → Aimed s R drops row window first fall → s.cost row ≡ cost
-      → (method ≡ 0 → ⊥) → Lies (cap_along (method_of method) s R drops row) most (first - cost + 1) fall most
+      → get_or drops row 0 ≤ 1_000_000 → (method ≡ 0 → ⊥) → Lies (cap_along (method_of method) s R drops row) most (first - cost + 1) fall most
   unfolding step_to
-  cap_with_row method window first fall cost aim own other =
+  cap_with_row method window first fall cost aim own small other =
       record {
         under = λ t h.
             omega (
@@ -171,7 +171,7 @@ module _ (s : Sheet) (R drops : List ℕ) (row most : ℕ) (way : OnWay s R drop
               next_step t (get_or drops row 0),
             );
         fewer = le_refl most;
-        gentle = omega (arith, way.drops_small.each row way.inside, aim.by_drop);
+        gentle = omega (arith, small, aim.by_drop);
       }
 
   -- What lies over the share and the cap lies over BCL's term; with the work, over RTA's.

@@ -1,5 +1,5 @@
 -- What only inner functions and proofs cite: no user need believe it.
-use Rattle.std.specs.Prelude.{◌≡◌, Bool, true, false, List, ℕ, ◌+◌, ◌*◌, ◌-◌, ◌≤◌, ◌<◌, min, eqb, length, get_or}
+use Rattle.std.specs.Prelude.{◌≡◌, Bool, true, false, List, ℕ, ◌+◌, ◌*◌, ◌-◌, ◌≤◌, ◌<◌, min, eqb, length, get_or, MatchOption}
 use Rattle.laws.specs.Choice.{pick}
 use Rattle.laws.specs.Sum.{total, unless}
 use Rattle.laws.specs.Fill.{listed}
@@ -7,8 +7,8 @@ use Rattle.model.specs.Sheet.{Sheet}
 use Rattle.model.specs.Interference.{share, work_of, bcl_term}
 use Rattle.model.specs.Refine.{Ask, marks}
 use Rattle.model.specs.Inner.{Held}
-use Rattle.rows.specs.declared.Found.{Found}
-use Rattle.rows.specs.declared.Found.TheVariants.{At, Nowhere}
+use Rattle.rows.specs.Words.{Found}
+use Rattle.std.specs.declared.option.Option.TheVariants.{Some, None}
 use Rattle.refinement.specs.Question.{Ready}
 use Rattle.refinement.specs.Refinement.{ask_of}
 pub mod Kept
@@ -53,24 +53,17 @@ pub record Running (s : Sheet) (R : List ℕ) (count processors method : ℕ) : 
 
 -- Whether there is an answer.
 unfoldable pub is_found : Found → Bool
-is_found (At bound) = true
-is_found Nowhere = false
+is_found (Some bound) = true
+is_found None = false
 
 -- The sum of the bounds, which falls with each pass that changes one.
 unfoldable pub bounds_sum : Sheet → List ℕ → ℕ
 bounds_sum s R = total (λ k. get_or R k 0) s.rows
 
--- What a pass leaves: the bounds that its definition gives; unmoved, the bounds it met, with their marks; moved, a smaller sum.
-pub record AfterPass (s : Sheet) (ask : Ask) (pass : List ℕ → List ℕ) (before after : List ℕ) (moved : Bool) (seen : ℕ) : Type 0 where
+-- What a pass leaves and tells: the bounds that its definition gives; no marks and a smaller sum, or the bounds it met and their marks.
+pub record AfterPass (s : Sheet) (ask : Ask) (pass : List ℕ → List ℕ) (before after : List ℕ) (told : Found) : Type 0 where
   pub exact : after ≡ pass before
-  pub still : moved ≡ false → (after ≡ before) × (seen ≡ marks s ask before)
-  pub lower : moved ≡ true → bounds_sum s after < bounds_sum s before
-
--- What copying leaves: the new bounds, and whether any differs from what was there.
-pub record Copied (before after new : List ℕ) (moved : Bool) : Type 0 where
-  pub exact : after ≡ new
-  pub still : moved ≡ false → new ≡ before
-  pub differs : moved ≡ true → new ≡ before → ⊥
+  pub outcome : MatchOption told (bounds_sum s after < bounds_sum s before) (λ seen. (after ≡ before) × (seen ≡ marks s ask before))
 
 -- What a row's term comes to for certain, one a step, before a new job must come: one cost more than its whole periods have, and never more
 -- than its share. A row whose cost fills its period always has a job.
@@ -78,12 +71,11 @@ unfoldable pub reach : ℕ → ℕ → ℕ → ℕ → ℕ
 reach cost period whole share = pick (eqb cost period) share (min (whole + cost) share)
 
 -- A jump on which the sum keeps up: what is gained already, and what the rooms let through in so many steps, is no less than m a step.
-pub record Jumped (room : List ℕ) (count gain m most far : ℕ) : Type 0 where
+pub record Jumped (room : List ℕ) (gain m most far : ℕ) : Type 0 where
   pub within : far ≤ most
-  pub gains : m * far ≤ gain + total (λ i. min far (get_or room i 0)) count
+  pub gains : m * far ≤ gain + total (λ i. min far (get_or room i 0)) (length room)
 
--- So many rooms, none above a million.
-pub record Rooms (room : List ℕ) (count : ℕ) : Type 0 where
-  pub there : count ≤ length room
-  pub few : count ≤ 64
-  pub small : (i : ℕ) → i < count → get_or room i 0 ≤ 1_000_000
+-- Rooms of at most 64 rows, none above a million.
+pub record Rooms (room : List ℕ) : Type 0 where
+  pub few : length room ≤ 64
+  pub small : (i : ℕ) → i < length room → get_or room i 0 ≤ 1_000_000

@@ -5,13 +5,19 @@ use Rattle.laws.specs.Choice.{pick, unless_refused}
 use Rattle.laws.specs.Bits.{every}
 use Rattle.model.specs.Sheet.{Sheet, Allowed}
 use Rattle.model.specs.Answer.{method_of, answer, Answers}
-use Rattle.rows.specs.declared.Found.{Found}
-use Rattle.rows.specs.declared.Found.TheVariants.{At, Nowhere}
-use Rattle.rows.specs.declared.Refusal.{Refusal}
+use Rattle.rows.specs.Words.{Found}
+use Rattle.std.specs.declared.option.Option.TheVariants.{Some, None}
+use Rattle.refusals.specs.Refusals.{Refusal}
 use Rattle.rows.specs.Words.{found_of}
-use Rattle.rows.specs.Checks.{refused, not_refused, processors_refusal, method_refusal, first_held, laid_refusal}
+use Rattle.rows.specs.Checks.{processors_refusal, method_refusal, first_held, laid_refusal}
+use Rattle.refusals.specs.Refusals.{refused, not_refused}
 use Rattle.rows.specs.Layouts.{Lent, in_triples}
-use Rattle.refinement.specs.declared.OneRow.{OneRow}
+
+-- The answer to the one-row question: a refusal's number and place, or 0, 0 and the row's bound or none.
+pub record OneRow : Type 0 where
+  pub refusal : ℕ
+  pub place : ℕ
+  pub answer : Found
 
 -- A bound lies from its row's cost to its deadline.
 unfoldable pub bound_allowed : Sheet → List ℕ → ℕ → Bool
@@ -34,7 +40,7 @@ one_row_refusal_of broken s processors method bounds row =
 -- What is answered to a refusal and a sheet: the refusal, or the one-row answer. Refused, it finds nothing.
 unfoldable pub one_row_of : Refusal → Sheet → ℕ → ℕ → List ℕ → ℕ → OneRow
 one_row_of refusal s processors method bounds row =
-    unless_refused refusal.number (record { refusal = refusal.number; place = refusal.place; answer = Nowhere })
+    unless_refused refusal.number (record { refusal = refusal.number; place = refusal.place; answer = None })
     (record { refusal = 0; place = 0; answer = found_of (answer (method_of method) s processors row bounds) })
 
 -- What is answered to rows, in whatever layout they are lent.
@@ -49,8 +55,8 @@ one_row words processors method bounds row = one_row_in (in_triples words) proce
 
 -- An answer as document 01 says it: a bound, or none.
 unfoldable pub answer_of : Found → Option ℕ
-answer_of (At bound) = some bound
-answer_of Nowhere = none
+answer_of (Some bound) = some bound
+answer_of None = none
 
 -- Each bound lies from its row's cost to its deadline.
 abbrev pub InRange : Sheet → List ℕ → Type 0
@@ -82,4 +88,4 @@ pub record OneRowPromise (refusal : Refusal) (s : Sheet) (processors method : �
   pub number : r.refusal ≡ refusal.number
   pub place : r.place ≡ refusal.place
   pub answered : r.refusal ≡ 0 → Answers (method_of method) s processors row bounds (answer_of r.answer)
-  pub nothing : (r.refusal ≡ 0 → ⊥) → r.answer ≡ Nowhere
+  pub nothing : (r.refusal ≡ 0 → ⊥) → r.answer ≡ None

@@ -6,8 +6,8 @@ use Rattle.laws.specs.Bits.{bit, bit_at}
 use Rattle.model.specs.Sheet.{Sheet}
 use Rattle.model.specs.Answer.{method_of, answer}
 use Rattle.model.specs.Refine.{Ask, rounds, at_once, marked, marks, Largest}
-use Rattle.rows.specs.declared.Refusal.{Refusal}
-use Rattle.rows.specs.declared.Found.TheVariants.{At, Nowhere}
+use Rattle.refusals.specs.Refusals.{Refusal}
+use Rattle.std.specs.declared.option.Option.TheVariants.{Some, None}
 use Rattle.rows.specs.Checks.{processors_refusal, method_refusal, room_refusal, first_held, laid_refusal}
 use Rattle.rows.specs.Layouts.{Lent, in_triples}
 use Rattle.refinement.specs.declared.Refined.{Refined}
@@ -92,7 +92,7 @@ AskedAgain broken s processors method said after =
     (k : ℕ) → k < s.rows
     → let bounds = take s.rows after in
     one_row_of (one_row_refusal_of broken s processors method bounds k) s processors method bounds k
-    ≡ record { refusal = 0; place = 0; answer = pick (eqb (bit_at said.marks k) 1) (At (get_or after k 0)) Nowhere }
+    ≡ record { refusal = 0; place = 0; answer = pick (eqb (bit_at said.marks k) 1) (Some (get_or after k 0)) None }
 
 -- An engine that ends where the rounds engine ends, whatever it is given.
 abbrev pub EndsAlike : Engine → Type 0

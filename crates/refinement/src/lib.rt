@@ -1,17 +1,15 @@
-// What the one-row question and a refinement mean on lent words, and what follows from it: types, definitions and laws, no function.
+// What the one-row question and a refinement mean on lent words, and what follows from it: types, definitions and laws.
 #![tactic(auto)]
 
-use rows::Found;
+mod asked;
+mod other;
+mod told;
 
-// The answer to the one-row question: a refusal's number and place, or 0, 0 and the row's bound or none.
-#[derive(Clone, Copy)]
-pub struct OneRow {
-    pub refusal: u32,
-    pub place: u32,
-    pub answer: Found,
-}
+pub use asked::Asked;
+pub use other::Other;
 
 // The answer of a refinement: a refusal's number and place, or 0, 0 and the marks.
+// Kept as it is: C is given this, field by field.
 #[repr(C)]
 #[derive(Clone, Copy)]
 pub struct Refined {

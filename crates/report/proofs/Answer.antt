@@ -10,11 +10,12 @@ use lib.ListN.{length, take, drop}
 use Rattle.laws.specs.Fill.{at_front}
 use Rattle.laws.proofs.Choice.{not-refused, is_refused, one_answer}
 use Rattle.laws.proofs.Fill.{front_put}
-use Rattle.rows.specs.declared.Refusal.{Refusal}
+use Rattle.refusals.specs.Refusals.{Refusal}
 use Rattle.model.specs.Sheet.{Sheet}
 use Rattle.model.proofs.Sheet.{few_rows}
 use Rattle.rows.specs.Words.{sheet_of}
-use Rattle.rows.specs.Checks.{refused, method_refusal, room_refusal}
+use Rattle.rows.specs.Checks.{method_refusal, room_refusal}
+use Rattle.refusals.specs.Refusals.{refused}
 use Rattle.rows.proofs.Checks.{allowed_processors, enough_room, room_enough}
 use Rattle.digits.specs.Digits.{upper}
 use Rattle.grammar.specs.declared.Read.{Read}

@@ -12,8 +12,9 @@ use Rattle.model.specs.Alike.{Alike}
 use Rattle.model.specs.Refine.{at_once}
 use Rattle.model.specs.Sheet.{Sheet, Allowed}
 use Rattle.model.proofs.Sheet.{few_rows}
-use Rattle.rows.specs.declared.Refusal.{Refusal}
-use Rattle.rows.specs.Checks.{refused, processors_refusal, method_refusal, room_refusal}
+use Rattle.refusals.specs.Refusals.{Refusal}
+use Rattle.rows.specs.Checks.{processors_refusal, method_refusal, room_refusal}
+use Rattle.refusals.specs.Refusals.{refused}
 use Rattle.rows.specs.Layouts.{Lent, shape_refusal, SameRows}
 use Rattle.rows.proofs.Fold.{others_pass, held_last}
 use Rattle.rows.proofs.Checks as checks

@@ -2,3 +2,4 @@ pub mod Text
 pub mod Entries
 pub mod Answer
 pub mod ReadBack
+pub mod Told

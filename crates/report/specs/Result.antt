@@ -6,9 +6,10 @@ use Rattle.laws.specs.Bits.{bit}
 use Rattle.model.specs.Refine.{at_once, Ask, marked, accepted}
 use Rattle.model.specs.Sheet.{Sheet}
 use Rattle.digits.specs.Digits.{number}
-use Rattle.rows.specs.declared.Refusal.{Refusal}
+use Rattle.refusals.specs.Refusals.{Refusal}
 use Rattle.rows.specs.Words.{sheet_of}
-use Rattle.rows.specs.Checks.{refused, room_refusal}
+use Rattle.rows.specs.Checks.{room_refusal}
+use Rattle.refusals.specs.Refusals.{refused}
 use Rattle.rows.specs.Layouts.{Lent, in_triples}
 use Rattle.refinement.specs.Refinement.{refine_refusal_of, final_marks, handed, Refinable}
 use Rattle.grammar.specs.declared.Written.{Written}

@@ -15,9 +15,10 @@ use Rattle.laws.proofs.Choice.{pick_yes, pick_no, not-refused, is_refused}
 use Rattle.laws.proofs.Search.{least_means, least-fixed}
 use Rattle.model.specs.Sheet.{Sheet, triples, row_allowed_at, processors_allowed, Allowed}
 use Rattle.model.proofs.Sheet.{count_allowed, some_rows, few_rows}
-use Rattle.rows.specs.declared.Refusal.{Refusal}
+use Rattle.refusals.specs.Refusals.{Refusal}
 use Rattle.rows.specs.Words.{sheet_of, outside, first_outside}
-use Rattle.rows.specs.Checks.{refused, not_refused, count_refusal, processors_refusal, method_refusal, room_refusal, first_of, rows_refusal, sheet_refusal, laid_refusal, not_whole, Accepted}
+use Rattle.rows.specs.Checks.{count_refusal, processors_refusal, method_refusal, room_refusal, first_of, rows_refusal, sheet_refusal, laid_refusal, not_whole, Accepted}
+use Rattle.refusals.specs.Refusals.{refused, not_refused}
 use Rattle.rows.specs.Layouts.{Lent, shape_refusal}
 use Rattle.rows.specs.Inner.{Laid}
 use Rattle.rows.proofs.Fold.{first_of_zero, next_decides, first_decides}
@@ -198,14 +199,17 @@ by_number lent own = split lent.broken (count_refusal lent.sheet.rows) (rows_ref
     split true count rows = refl
     split false count rows = refl
 
--- With neither 2 nor 3 the layout is not broken, and there are at most 64 rows.
-pub shape_passed : (lent : Lent) → shape_refusal lent ≡ 0 → (lent.broken ≡ false) × (lent.sheet.rows ≤ 64)
+-- With neither 2 nor 3 the layout is not broken, and there are from 1 to 64 rows.
+pub shape_sized : (lent : Lent) → shape_refusal lent ≡ 0 → (lent.broken ≡ false) × (1 ≤ lent.sheet.rows) × (lent.sheet.rows ≤ 64)
 unfolding shape_refusal
-shape_passed lent zero = split lent.broken zero
+shape_sized lent zero = split lent.broken zero
   where
-    split : (broken : Bool) → pick broken 2 (count_refusal lent.sheet.rows) ≡ 0 → (broken ≡ false) × (lent.sheet.rows ≤ 64)
+    split : (broken : Bool) → pick broken 2 (count_refusal lent.sheet.rows) ≡ 0 → (broken ≡ false) × (1 ≤ lent.sheet.rows) × (lent.sheet.rows ≤ 64)
     split true zero = absurd (omega arith)
-    split false zero = (refl, (count_within lent.sheet.rows zero).1)
+    split false zero = let counted = count_within lent.sheet.rows zero in (refl, counted.0, counted.1)
+
+pub shape_passed : (lent : Lent) → shape_refusal lent ≡ 0 → (lent.broken ≡ false) × (lent.sheet.rows ≤ 64)
+shape_passed lent zero = let all = shape_sized lent zero in (all.0, all.2)
 
 -- With 2 or 3 that is the refusal, whatever the entry's own checks say.
 pub shape_refused : (lent : Lent) (own : ℕ) → (shape_refusal lent ≡ 0 → ⊥) → laid_refusal lent.broken lent.sheet own ≡ refused (shape_refusal lent) 0

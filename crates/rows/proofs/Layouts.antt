@@ -14,7 +14,7 @@ use Rattle.model.specs.Sheet.{Sheet, triples, columns}
 use Rattle.model.specs.Alike.{Alike}
 use Rattle.model.specs.Refine.{deadlines}
 use Rattle.model.proofs.Alike.{alike_back, alike_then}
-use Rattle.rows.specs.declared.Refusal.{Refusal}
+use Rattle.refusals.specs.Refusals.{Refusal}
 use Rattle.rows.specs.Words.{sheet_of}
 use Rattle.rows.specs.Checks.{not_whole}
 use Rattle.rows.specs.Layouts.{Lent, in_triples, uneven, in_columns, shape_refusal, SameRows, as_triples, as_columns}

@@ -3,3 +3,4 @@ pub mod Fold
 pub mod Checks
 pub mod Alike
 pub mod Layouts
+pub mod InOrder

@@ -7,7 +7,7 @@ use Prim.Native.Nat.{ℕ, zero, suc, ◌+◌, ◌*◌, ◌≤◌}
 use native.Mathlib.Omega.{arith}
 use lib.ListN.{get_or}
 use Rattle.model.specs.Sheet.{triples, row_allowed_at}
-use Rattle.rows.specs.declared.Found.TheVariants.{At, Nowhere}
+use Rattle.std.specs.declared.option.Option.TheVariants.{Some, None}
 use Rattle.rows.specs.Words.{sheet_of, outside, found_of, bound_or, found_from}
 
 -- The cost, the deadline and the period of row k are words 3k, 3k + 1 and 3k + 2.
@@ -23,13 +23,13 @@ pub period_word : (words : List ℕ) (k : ℕ) → (sheet_of words).period k ≡
 unfolding sheet_of triples
 period_word words k = refl
 
--- The same read back: at a number is some number, nowhere is none.
-pub found_some : (o : Option ℕ) (k : ℕ) → found_of o ≡ At k → o ≡ some k
+-- The same read back: `Some` of a number is that number, and `None` is none.
+pub found_some : (o : Option ℕ) (k : ℕ) → found_of o ≡ Some k → o ≡ some k
 unfolding found_of
 found_some none k same = let never : ◌≡◌ {A = ℕ} 0 1 = cc in absurd (omega arith)
 found_some (some j) k same = cc
 
-pub found_none : (o : Option ℕ) → found_of o ≡ Nowhere → o ≡ none
+pub found_none : (o : Option ℕ) → found_of o ≡ None → o ≡ none
 unfolding found_of
 found_none none same = refl
 found_none (some j) same = let never : ◌≡◌ {A = ℕ} 0 1 = cc in absurd (omega arith)
@@ -40,7 +40,7 @@ unfolding outside sheet_of triples row_allowed_at
 counted_anyhow n words k = refl
 
 -- A number that is not 0 is a bound.
-pub found_positive : (bound : ℕ) → (bound ≡ 0 → ⊥) → At bound ≡ found_from bound
+pub found_positive : (bound : ℕ) → (bound ≡ 0 → ⊥) → Some bound ≡ found_from bound
 unfolding found_from
 found_positive zero positive = absurd (positive refl)
 found_positive (suc k) positive = refl

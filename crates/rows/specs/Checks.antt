@@ -3,16 +3,8 @@ use Rattle.std.specs.Prelude.{◌≡◌, Bool, false, not, ◌&&◌, List, [], �
 use Rattle.std.proofs.Math.Option.{Option, none, some}
 use Rattle.laws.specs.Choice.{pick, unless_refused}
 use Rattle.model.specs.Sheet.{Sheet, Allowed, processors_allowed}
-use Rattle.rows.specs.declared.Refusal.{Refusal}
+use Rattle.refusals.specs.Refusals.{Refusal, refused, not_refused}
 use Rattle.rows.specs.Words.{sheet_of, first_outside}
-
--- A refusal by its number and place.
-abbrev pub refused : ℕ → ℕ → Refusal
-refused number place = record { number = number; place = place }
-
--- Number 0 and place 0: no refusal.
-abbrev pub not_refused : Refusal
-not_refused = refused 0 0
 
 -- 2 where there is no row, 3 where there are more than 64, else 0.
 unfoldable pub count_refusal : ℕ → ℕ

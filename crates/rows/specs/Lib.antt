@@ -2,3 +2,4 @@ pub mod Words
 pub mod Checks
 pub mod Layouts
 pub mod Inner
+pub mod Methods

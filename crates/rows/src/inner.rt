@@ -9,7 +9,7 @@ use crate::row_allowed;
 pub(crate) fn word_at(words: &[u32], at: usize) -> u32
     ensures { result ≡ get_or words.now at 0 }
 {
-    if at < words.len() { words[at] } else { 0 }
+    words.get(at).copied().unwrap_or(0)
 }
 
 // Whether the row at a place has its sizes. A row that is not wholly there has not: its period is 0.

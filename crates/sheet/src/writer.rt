@@ -1,12 +1,13 @@
 // Writing the lines of a sheet, each into the part of the output that is lent for it.
-ghost use Rattle.std.specs.Prelude.{◌≡◌, ◌*◌, ◌≤◌, ◌<◌, length};
+ghost use Rattle.std.specs.Prelude.{◌≡◌, ◌*◌, ◌≤◌, length};
 ghost use Rattle.laws.specs.Fill.{joined};
 ghost use Rattle.rows.specs.Words.{sheet_of};
 ghost use Rattle.grammar.specs.Grammar.{head, line, sheet_length};
 ghost use Rattle.grammar.specs.Lines.{first_line, row_line, line_of, sheet_bytes};
 
+use blocks::put_blocks;
 use digits::put_digits;
-use rows::{cost, deadline, period};
+use rows::{cost, deadline, period, row_count};
 
 // Writes line one: `01`, processors, rows.
 pub(crate) fn put_first_line(out: &mut [u8], processors: u32, rows: u32)
@@ -32,22 +33,23 @@ pub(crate) fn put_row_line(out: &mut [u8], cost: u32, deadline: u32, period: u32
 }
 
 // Writes one line a row.
-pub(crate) fn put_rows(words: &[u32], rows: u32, out: &mut [u8])
-    requires { length out.old ≡ line * rows }
-    ensures { out.new ≡ joined (line_of (sheet_of words.now)) rows }
+#[tactic(auto, unfolding(grammar::specs::Grammar::line))]
+pub(crate) fn put_rows(words: &[u32], out: &mut [u8])
+    requires { ((sheet_of words.now).rows ≤ 64) × (length out.old ≡ line * (sheet_of words.now).rows) }
+    ensures { out.new ≡ joined (line_of (sheet_of words.now)) (sheet_of words.now).rows }
 {
-    let mut row = 0;
-    while row < rows {
-        let start = form::LINE * (row as usize);
-        let end = start + form::LINE;
+    let put = |row: u32, part: &mut [u8]|
+        requires { length part.old ≡ line }
+        ensures { part.new ≡ line_of (sheet_of words.entry.now) row }
+    {
         put_row_line(
-            &mut out[start..end],
+            part,
             cost(words, row),
             deadline(words, row),
             period(words, row),
         );
-        row += 1;
-    }
+    };
+    put_blocks(out, form::LINE, row_count(words) as u32, put);
 }
 
 // Writes a whole sheet.
@@ -55,7 +57,6 @@ pub(crate) fn put_sheet(words: &[u32], processors: u32, out: &mut [u8])
     requires { ((sheet_of words.now).rows ≤ 64) × (length out.old ≡ sheet_length (sheet_of words.now).rows) }
     ensures { out.new ≡ sheet_bytes (sheet_of words.now) processors }
 {
-    let rows = rows::row_count(words) as u32;
-    put_first_line(&mut out[..form::HEAD], processors, rows);
-    put_rows(words, rows, &mut out[form::HEAD..]);
+    put_first_line(&mut out[..form::HEAD], processors, row_count(words) as u32);
+    put_rows(words, &mut out[form::HEAD..]);
 }

@@ -81,11 +81,9 @@ stopped_answer bytes most past =
     (below_or_from most (length bytes))
 
 -- What was read is a whole input too, and its answer is no longer than the output in which it stands.
-pub read_fits : (sheet out last : List ℕ) (count r : ℕ) → length sheet ≡ 8192 → count ≤ 8192
-    → ((input : List ℕ) → take 8192 input ≡ take count sheet → (r ≡ length (answer_text input)) × (last ≡ answer_text input ++ drop r out))
+pub read_fits : (sheet out last : List ℕ) (r : ℕ) → length sheet ≤ 8192
+    → ((input : List ℕ) → take 8192 input ≡ sheet → (r ≡ length (answer_text input)) × (last ≡ answer_text input ++ drop r out))
     → r ≤ length last
-read_fits sheet out last count r full read answers =
-    let whole : take 8192 (take count sheet) ≡ take count sheet =
-    take_all 8192 (take count sheet) (omega (arith, length-take-le count sheet (omega arith))) in
-    let told = answers (take count sheet) whole in
-    omega (arith, told.0, ap length told.1, length-append (answer_text (take count sheet)) (drop r out))
+read_fits sheet out last r few answers =
+    let told = answers sheet (take_all 8192 sheet few) in
+    omega (arith, told.0, ap length told.1, length-append (answer_text sheet) (drop r out))

@@ -27,17 +27,19 @@ fn put_answer(bytes: &[u8], out: &mut [u8; LONGEST]) -> usize
     ensures value { result ≡ length (answer_text bytes.now) }
     ensures out_after { out.new ≡ answer_text bytes.now ++ drop result out.old }
 {
-    let written = answer_sheet(bytes, out);
-    written.length as usize
+    match answer_sheet(bytes, out) {
+        Ok(length) => length as usize,
+        Err(_) => unreachable!(),
+    }
 }
 
 // The answer by what was read of an input: for every input of which those are the first bytes, all of them or as many as the space holds, its
 // answer stands at the front of the output, and its length is returned.
-fn answer_read(sheet: &[u8], count: usize, out: &mut [u8; LONGEST]) -> usize
-    requires { (length sheet.now ≡ 8192) × (count ≤ 8192) }
-    ensures { (input : List ℕ) → take 8192 input ≡ take count sheet.now → (result ≡ length (answer_text input)) × (out.new ≡ answer_text input ++ drop result out.old) }
+fn answer_read(sheet: &[u8], out: &mut [u8; LONGEST]) -> usize
+    requires { length sheet.now ≤ 8192 }
+    ensures { (input : List ℕ) → take 8192 input ≡ sheet.now → (result ≡ length (answer_text input)) × (out.new ≡ answer_text input ++ drop result out.old) }
 {
-    put_answer(&sheet[..count], out)
+    put_answer(sheet, out)
 }
 
 // Reads an input into a space, to the input's end or until the space is full, and gives how many bytes that are. One read may give fewer bytes
@@ -63,6 +65,6 @@ pub fn answer_input(rt: &(impl Input + Print)) -> io::Result<()> {
     let mut sheet = input_room();
     let count = read_full(&mut rt.reader(), &mut sheet)?;
     let mut out = [0u8; LONGEST];
-    let length = answer_read(&sheet, count, &mut out);
+    let length = answer_read(&sheet[..count], &mut out);
     rt.write_all(&out[..length])
 }

@@ -1,23 +1,24 @@
 -- Backward steps. Demand keeps order, so a demand of s in a length of s or more clears every length from s to it, and what was noted of a
 -- group in a longer length is not too little in a shorter one.
-use mathlib.Core.Path.{◌≡◌, refl, sym, ◌∙◌}
+use mathlib.Core.Path.{◌≡◌, refl, sym, ◌∙◌, ap}
 use mathlib.Core.List.{List}
 use mathlib.Core.Logic.{⊎_elim}
 use Prim.Native.Nat.{ℕ, zero, suc, ◌+◌, ◌*◌, ◌-◌, ◌/◌, ◌≤◌, ◌<◌, min}
 use native.Mathlib.Nat.{le_trans, le_of_eq, add-le-add, le_of_suc-le-suc, mul-le-mul_right}
 use native.Mathlib.Decide.{ℕ_discrete}
 use native.Mathlib.Omega.{arith}
-use lib.ListN.{length, get_or, set, length-set, replicate}
+use lib.ListN.{length, set, length-set, replicate}
 use lib.Seq.{get_or-set_same, get_or-set_other}
 use Rattle.laws.specs.Sum.{total}
 use Rattle.laws.specs.Climb.{Monotone}
 use Rattle.laws.proofs.Order.{below_or_from, div_mono}
 use Rattle.laws.proofs.Sum.{total_step, total_mono, total-within}
-use Rattle.model.specs.Sheet.{Sheet}
+use Rattle.model.specs.Sheet.{Sheet, Allowed}
 use Rattle.model.specs.Demand.{row_demand, demand_of, demand}
 use Rattle.model.proofs.Demand.{demand_before, demand_from}
-use Rattle.verdict.specs.Inner.{Given, Clear, group_demand, NotesGiven}
-use Rattle.verdict.proofs.Sound.{demand_small, shorter_given}
+use Rattle.verdict.specs.declared.Note.{Note}
+use Rattle.verdict.specs.Inner.{Clear, group_demand, note_of, Noted}
+use Rattle.verdict.proofs.Sound.{demand_small}
 
 -- A longer length has no smaller demand: of a row, of a group, of the sheet.
 row_mono : (c d p t u : ℕ) → t ≤ u → row_demand c d p t ≤ row_demand c d p u
@@ -90,11 +91,11 @@ summed_all s t group sum all summed =
     let whole : min (4 * group) s.rows ≡ s.rows = omega arith in
     rw whole at summed.enough
 
--- Four rows that each demand at most 16,777,216 demand at most four times as much.
-pub group_small : (s : Sheet) (t g : ℕ) → ((i : ℕ) → i < s.rows → demand_of s t i ≤ 16_777_216) → group_demand s t g ≤ 67_108_864
+-- Four rows of an allowed sheet demand little in a length that no horizon exceeds.
+pub group_small : (s : Sheet) → Allowed s → (t : ℕ) → t ≤ 16_777_216 → (g : ℕ) → group_demand s t g ≤ 67_108_864
 unfolding group_demand
-group_small s t g each =
-    omega (arith, total-within _ 16_777_216 (min 4 (s.rows - 4 * g)) (λ j here. each (4 * g + j) (omega arith)))
+group_small s sizes t within g =
+    omega (arith, total-within _ 16_777_216 (min 4 (s.rows - 4 * g)) (λ j here. demand_small s sizes t within (4 * g + j) (omega arith)))
 
 -- A group looked at, four rows or as many as are left of those counted, shows its demand.
 pub group_shown : (s : Sheet) (t g : ℕ) {count left size sum : ℕ} → count ≡ s.rows → left ≡ count - 4 * g → size ≡ min 4 left
@@ -102,63 +103,45 @@ pub group_shown : (s : Sheet) (t g : ℕ) {count left size sum : ℕ} → count 
 unfolding group_demand
 group_shown s t g counted is_left is_size is_sum = rw (is_left, counted) at (rw is_size at is_sum)
 
--- What holds of every number noted holds after one is noted anew, if it holds of the new one.
-anew : (holds : ℕ → ℕ → Type 0) (notes : List ℕ) (g value : ℕ) → g < length notes → holds g value
-    → ((k : ℕ) → k < 16 → holds k (get_or notes k 0)) → (k : ℕ) → k < 16 → holds k (get_or (set notes g value) k 0)
-anew holds notes g value room new each k here = decided (ℕ_discrete k g)
+-- What holds of every note holds after one is made anew, if it holds of the new one.
+anew : (holds : ℕ → Note → Type 0) (notes : List Note) (g : ℕ) (note : Note) → g < length notes → holds g note
+    → ((k : ℕ) → k < 16 → holds k (note_of notes k)) → (k : ℕ) → k < 16 → holds k (note_of (set notes g note) k)
+anew holds notes g note room new each k here = decided (ℕ_discrete k g)
   where
-    decided : Dec (k ≡ g) → holds k (get_or (set notes g value) k 0)
-    decided (yes same) = rw (same, get_or-set_same notes g value 0 room) new
-    decided (no other) = rw (get_or-set_other notes g k value 0 other) (each k here)
+    decided : Dec (k ≡ g) → holds k (note_of (set notes g note) k)
+    decided (yes same) = rw (same, get_or-set_same notes g note _ room) new
+    decided (no other) = rw (get_or-set_other notes g k note _ other) (each k here)
 
--- Every place of a list of one number holds it.
-alike : (n value k : ℕ) → k < n → value ≡ get_or (replicate n value) k 0
-alike zero value k here = absurd (omega arith)
-alike (suc n) value zero here = refl
-alike (suc n) value (suc k) here = alike n value k (le_of_suc-le-suc here)
+-- Every place of a list of one note holds it.
+alike : (n : ℕ) (note : Note) (k : ℕ) → k < n → note ≡ note_of (replicate n note) k
+alike zero note k here = absurd (omega arith)
+alike (suc n) note zero here = refl
+alike (suc n) note (suc k) here = alike n note k (le_of_suc-le-suc here)
 
-module _ (s : Sheet) (count t : ℕ) where
+-- Notes hold in a shorter length too.
+pub notes_shorter : (s : Sheet) (t u : ℕ) (notes : List Note) → u ≤ t → Noted s t notes → Noted s u notes
+notes_shorter s t u notes shorter noted =
+    record { room = noted.room; enough = λ g here. le_trans (group_mono s g u t shorter) (noted.enough g here); small = noted.small }
+
+module _ (s : Sheet) (sizes : Allowed s) (t : ℕ) (within : t ≤ 16_777_216) where
   -- With nothing noted yet the most that four rows can demand stands for each group.
-  pub notes_first : Given s count t → NotesGiven s count t (replicate 16 16_777_217) (replicate 16 67_108_864)
-  notes_first given =
+  pub notes_first : (note : Note) → note.demand ≡ 67_108_864 → Noted s t (replicate 16 note)
+  notes_first note most =
+      let same : (g : ℕ) → g < 16 → (note_of (replicate 16 note) g).demand ≡ 67_108_864 =
+      λ g here. ap (λ (n : Note). n.demand) (sym (alike 16 note g here)) ∙ most in
       record {
-        given = given;
         room = refl;
-        noted = record {
-          room = refl;
-          enough = λ g here.
-              le_trans (group_small s t g (demand_small s count t given)) (le_of_eq (alike 16 67_108_864 g here));
-          small = λ g here. le_of_eq (sym (alike 16 67_108_864 g here));
-        };
-      }
-
-  -- Notes hold in a shorter length too.
-  pub notes_shorter : (u : ℕ) (since most : List ℕ) → u ≤ t → NotesGiven s count t since most → NotesGiven s count u since most
-  notes_shorter u since most shorter notes =
-      let noted = notes.noted in
-      record {
-        given = shorter_given s count t notes.given u shorter;
-        room = notes.room;
-        noted = record {
-          room = noted.room;
-          enough = λ g here. le_trans (group_mono s g u t shorter) (noted.enough g here);
-          small = noted.small;
-        };
+        enough = λ g here. le_trans (group_small s sizes t within g) (le_of_eq (sym (same g here)));
+        small = λ g here. le_of_eq (same g here);
       }
 
   -- They hold with a group noted anew.
-  pub notes_anew : (since most : List ℕ) (g value last : ℕ) → g < 16 → value ≡ group_demand s t g
-      → NotesGiven s count t since most → NotesGiven s count t (set since g last) (set most g value)
-  notes_anew since most g value last here same notes =
-      let noted = notes.noted in
-      let room : g < length most = rw noted.room here in
+  pub notes_anew : (notes : List Note) (g : ℕ) (note : Note) → g < 16 → note.demand ≡ group_demand s t g
+      → Noted s t notes → Noted s t (set notes g note)
+  notes_anew notes g note here same noted =
+      let room : g < length notes = rw noted.room here in
       record {
-        given = notes.given;
-        room = length-set since g last ∙ notes.room;
-        noted = record {
-          room = length-set most g value ∙ noted.room;
-          enough = anew (λ k note. group_demand s t k ≤ note) most g value room (le_of_eq (sym same)) noted.enough;
-          small = anew (λ k note. note ≤ 67_108_864) most g value room
-              (rw same (group_small s t g (demand_small s count t notes.given))) noted.small;
-        };
+        room = length-set notes g note ∙ noted.room;
+        enough = anew (λ k n. group_demand s t k ≤ n.demand) notes g note room (le_of_eq (sym same)) noted.enough;
+        small = anew (λ k n. n.demand ≤ 67_108_864) notes g note room (rw same (group_small s sizes t within g)) noted.small;
       }

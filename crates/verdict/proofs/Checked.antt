@@ -6,7 +6,7 @@ use native.Mathlib.Omega.{arith}
 use Rattle.laws.proofs.Choice.{pick_yes}
 use Rattle.model.specs.Sheet.{Sheet, horizon_allowed}
 use Rattle.model.proofs.Sheet.{allowed_horizon, horizon_allowed_lem}
-use Rattle.rows.specs.Checks.{not_refused}
+use Rattle.refusals.specs.Refusals.{not_refused}
 use Rattle.rows.proofs.Fold.{none_held, held_none}
 use Rattle.rows.proofs.Checks.{allowed_by_zero, accepted, accepted-passes}
 use Rattle.verdict.specs.OneProcessor.{horizon_refusal, one_processor_refusal_of, Testable}

@@ -10,14 +10,14 @@ use lib.Dec.{ltb, eqb}
 use Rattle.laws.specs.Choice.{or_else}
 use Rattle.laws.specs.Search.{Searched}
 use Rattle.laws.proofs.Search.{least_means, least-fixed}
-use Rattle.model.specs.Sheet.{Sheet}
+use Rattle.model.specs.Sheet.{Sheet, Allowed}
 use Rattle.model.specs.Demand.{demand, busy, busy_length, first_miss, judged, verdict}
 use Rattle.model.proofs.Sheet.{periods_positive}
 use Rattle.model.proofs.Demand.{never_misses}
-use Rattle.rows.specs.declared.Found.{Found}
+use Rattle.rows.specs.Words.{Found}
 use Rattle.rows.specs.Words.{found_of}
 use Rattle.verdict.specs.OneProcessor.{outcome_of}
-use Rattle.verdict.specs.Inner.{BusyGiven, furthest, without_miss}
+use Rattle.verdict.specs.Inner.{furthest, without_miss}
 
 -- The last length to look at, as the code finds it.
 furthest_found : (b : Option ℕ) (h : ℕ) → furthest (found_of b) h ≡ or_else b h
@@ -56,19 +56,19 @@ module _ (s : Sheet) (positive : (i : ℕ) → i < s.rows → 1 ≤ s.period i) 
       (least-fixed (λ t. ltb t (demand s t)) 1 h none
       (λ u from below. le-ltb _ _ (clean h (busy_length s h) (least_means (λ t. eqb t (busy s t)) 1 h) early u from (omega arith))))
 
-module _ (s : Sheet) (count horizon : ℕ) (found : Found) (given : BusyGiven s count horizon found) where
+module _ (s : Sheet) (horizon : ℕ) (found : Found) (climbed : found ≡ found_of (busy_length s horizon)) where
   -- The last length to look at is the busy length, or else the horizon.
   last : furthest found horizon ≡ or_else (busy_length s horizon) horizon
-  last = ap (λ (b : Found). furthest b horizon) given.climbed ∙ furthest_found _ _
+  last = ap (λ (b : Found). furthest b horizon) climbed ∙ furthest_found _ _
 
   -- It lies from 1 to the horizon.
-  pub last_bounds : (1 ≤ furthest found horizon) × (furthest found horizon ≤ horizon)
-  last_bounds = rw last (last_within s horizon given.from_one)
+  pub last_bounds : 1 ≤ horizon → (1 ≤ furthest found horizon) × (furthest found horizon ≤ horizon)
+  last_bounds from_one = rw last (last_within s horizon from_one)
 
   -- With no miss up to it the busy length decides.
-  pub decided : ((u : ℕ) → 1 ≤ u → u ≤ furthest found horizon → demand s u ≤ u)
+  pub decided : Allowed s → ((u : ℕ) → 1 ≤ u → u ≤ furthest found horizon → demand s u ≤ u)
       → without_miss found ≡ outcome_of (verdict s horizon)
-  decided early =
-      ap without_miss given.climbed
+  decided sizes early =
+      ap without_miss climbed
       ∙ sym (judged_found _)
-      ∙ sym (ap outcome_of (clean_verdict _ (periods_positive s given.given.sizes) horizon (rw last at early)))
+      ∙ sym (ap outcome_of (clean_verdict _ (periods_positive s sizes) horizon (rw last at early)))

@@ -6,3 +6,4 @@ pub mod Last
 pub mod Backward
 pub mod Checked
 pub mod Promised
+pub mod Told

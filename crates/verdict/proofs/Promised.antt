@@ -14,15 +14,15 @@ use Rattle.model.specs.Demand.{Verdict, miss, fits, undecided, demand, verdict, 
 use Rattle.model.specs.Alike.{Alike}
 use Rattle.model.proofs.Alike.{verdict_alike}
 use Rattle.model.proofs.Demand.{allowed_verdict_means, verdict-fixed}
-use Rattle.rows.specs.declared.Refusal.{Refusal}
-use Rattle.rows.specs.Checks.{refused}
+use Rattle.refusals.specs.Refusals.{Refusal}
+use Rattle.refusals.specs.Refusals.{refused}
 use Rattle.rows.specs.Layouts.{Lent, shape_refusal, SameRows}
 use Rattle.rows.proofs.Alike.{laid_refusal_alike}
 use Rattle.rows.proofs.Checks.{shape_refused}
 use Rattle.rows.proofs.Layouts.{same_rows_answered}
 use Rattle.verdict.specs.declared.Outcome.{Outcome}
 use Rattle.verdict.specs.declared.Outcome.TheVariants.{Miss, Fits, Undecided}
-use Rattle.verdict.specs.declared.Answer.{Answer}
+use Rattle.verdict.specs.OneProcessor.{Answer}
 use Rattle.verdict.specs.OneProcessor.{one_processor_refusal_of, outcome_of, verdict_of, outcome_number, outcome_value, refused_answer, answered, one_processor_of, one_processor_in, Testable, Promise}
 use Rattle.verdict.proofs.Checked.{checked, checked_passes}
 

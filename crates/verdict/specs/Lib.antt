@@ -1,2 +1,3 @@
 pub mod OneProcessor
 pub mod Inner
+pub mod Told

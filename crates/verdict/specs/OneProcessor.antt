@@ -3,12 +3,17 @@ use Rattle.std.specs.Prelude.{◌≡◌, Bool, false, List, [], ◌∷◌, ℕ, 
 use Rattle.laws.specs.Choice.{pick, unless_refused}
 use Rattle.model.specs.Sheet.{Sheet, Allowed, horizon_allowed}
 use Rattle.model.specs.Demand.{Verdict, miss, fits, undecided, verdict, Means}
-use Rattle.rows.specs.declared.Refusal.{Refusal}
+use Rattle.refusals.specs.Refusals.{Refusal}
 use Rattle.rows.specs.Checks.{first_held, laid_refusal}
 use Rattle.rows.specs.Layouts.{Lent, in_triples}
 use Rattle.verdict.specs.declared.Outcome.{Outcome}
 use Rattle.verdict.specs.declared.Outcome.TheVariants.{Miss, Fits, Undecided}
-use Rattle.verdict.specs.declared.Answer.{Answer}
+
+-- What the test answers: a refusal's number and place, or 0 and 0, and an outcome. A refused answer says Undecided.
+pub record Answer : Type 0 where
+  pub refusal : ℕ
+  pub place : ℕ
+  pub outcome : Outcome
 
 -- 6: horizon 0 or above 16,777,216.
 unfoldable pub horizon_refusal : ℕ → ℕ

@@ -10,18 +10,18 @@ pub enum Outcome {
     Undecided,
 }
 
-// A refusal's number and place, 0 and 0 where there is none; then what the test says. A refused answer says Undecided.
-#[derive(Clone, Copy)]
-pub struct Answer {
-    pub refusal: u32,
-    pub place: u32,
-    pub outcome: Outcome,
-}
-
 // What a look at a row shows: its demand in the length, its last deadline within the length, or 0, and its first behind the length.
 #[derive(Clone, Copy)]
 pub struct Look {
     pub demand: u32,
     pub since: u32,
     pub next: u32,
+}
+
+// What is noted of a group of rows: its demand in a length, and its last deadline within that length. The deadline says when to look again
+// and no more: nothing is claimed by it.
+#[derive(Clone, Copy)]
+pub struct Note {
+    pub demand: u32,
+    pub since: u32,
 }

@@ -18,8 +18,7 @@ const RTA: u32 = 1;
 
 fn main(rt: HostRuntime) -> io::Result<()> {
     case_s::round_by_round(&rt)?;
-    case_s::by_rounds(&rt)?;
-    case_s::at_once(&rt)?;
+    case_s::by_either_engine(&rt)?;
     case_s::last_row(&rt)?;
     twins::on_one_processor(&rt)?;
     twins::on_two_processors(&rt)?;

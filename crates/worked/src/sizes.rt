@@ -1,127 +1,100 @@
 // The sizes allowed, and one more: what every entry on rows says of them.
-use crate::{RTA, say};
+use crate::{RTA, densities, exact, say};
+use analysis::{AtOnce, Engine, Rounds};
 use std::io;
 
-// The one-row question, of the last row.
-fn one_row(
-    rt: &impl Print,
-    name: &[u8],
-    rows: &[u32],
+// Rows on processors, and what is asked of them: the one-row question of a row under bounds, and the exact test's horizon.
+#[derive(Clone, Copy)]
+struct Case<'a> {
+    name: &'a str,
+    rows: &'a [u32],
     processors: u32,
-    bounds: &[u32],
-    row: u32,
-) -> io::Result<()> {
-    say::text(rt, name)?;
-    say::text(rt, b", the last row: ")?;
-    say::one_row(rt, analysis::one_row(rows, processors, RTA, bounds, row))?;
-    say::end(rt)
-}
-
-// Both engines.
-fn refined(rt: &impl Print, name: &[u8], rows: &[u32], processors: u32) -> io::Result<()> {
-    let mut bounds = [0u32; 65];
-    say::text(rt, name)?;
-    say::text(rt, b", by rounds: ")?;
-    say::marks(
-        rt,
-        analysis::refine_rounds(rows, processors, RTA, &mut bounds),
-    )?;
-    say::end(rt)?;
-    say::text(rt, name)?;
-    say::text(rt, b", at once: ")?;
-    say::marks(
-        rt,
-        analysis::refine_at_once(rows, processors, RTA, &mut bounds),
-    )?;
-    say::end(rt)
-}
-
-// The exact test.
-fn tested(rt: &impl Print, name: &[u8], rows: &[u32], horizon: u32) -> io::Result<()> {
-    say::text(rt, name)?;
-    say::text(rt, b", horizon ")?;
-    say::number(rt, horizon as u64)?;
-    say::text(rt, b": ")?;
-    say::outcome(rt, demand::one_processor(rows, horizon))?;
-    say::end(rt)
-}
-
-// The density test.
-fn dense(rt: &impl Print, name: &[u8], rows: &[u32], processors: u32) -> io::Result<()> {
-    say::text(rt, name)?;
-    say::text(rt, b", by densities: ")?;
-    say::density(rt, density::density(rows, processors))?;
-    say::end(rt)
-}
-
-// Both writers, into space that 65 rows would fit.
-fn written(rt: &impl Print, name: &[u8], rows: &[u32], processors: u32) -> io::Result<()> {
-    let mut out = [0u8; 1372];
-    say::text(rt, name)?;
-    say::text(rt, b", as a sheet: ")?;
-    say::written(rt, sheet::write_sheet(rows, processors, &mut out))?;
-    say::end(rt)?;
-    say::text(rt, name)?;
-    say::text(rt, b", the result: ")?;
-    say::written(rt, result::write_result(rows, processors, RTA, &mut out))?;
-    say::end(rt)
-}
-
-// Every entry on the same rows.
-fn every_entry(
-    rt: &impl Print,
-    name: &[u8],
-    rows: &[u32],
-    processors: u32,
-    bounds: &[u32],
+    bounds: &'a [u32],
     row: u32,
     horizon: u32,
-) -> io::Result<()> {
-    one_row(rt, name, rows, processors, bounds, row)?;
-    refined(rt, name, rows, processors)?;
-    tested(rt, name, rows, horizon)?;
-    dense(rt, name, rows, processors)?;
-    written(rt, name, rows, processors)
+}
+
+impl Case<'_> {
+    // The one-row question, of the last row.
+    fn one_row(&self, rt: &impl Print) -> io::Result<()> {
+        let answer = analysis::one_row(self.rows, self.processors, RTA, self.bounds, self.row);
+        println!(rt; "{}, the last row: {}", self.name, say::Row(answer))
+    }
+
+    // An engine's marks.
+    fn refined(&self, rt: &impl Print, how: &str, engine: &impl Engine) -> io::Result<()> {
+        let mut bounds = [0u32; 65];
+        let marks = analysis::refine(engine, self.rows, self.processors, RTA, &mut bounds);
+        println!(rt; "{}, {how}: {}", self.name, say::Marks(marks))
+    }
+
+    // Both writers, into space that 65 rows would fit.
+    fn written(&self, rt: &impl Print) -> io::Result<()> {
+        let mut out = [0u8; 1372];
+        let sheet = sheet::write_sheet(self.rows, self.processors, &mut out);
+        println!(rt; "{}, as a sheet: {}", self.name, say::Written(sheet))?;
+        let result = result::write_result(self.rows, self.processors, RTA, &mut out);
+        println!(rt; "{}, the result: {}", self.name, say::Written(result))
+    }
+
+    // Every entry on the same rows.
+    fn every_entry(&self, rt: &impl Print) -> io::Result<()> {
+        self.one_row(rt)?;
+        self.refined(rt, "by rounds", &Rounds)?;
+        self.refined(rt, "at once", &AtOnce)?;
+        exact::line(rt, self.name, self.rows, self.horizon)?;
+        densities::line(rt, self.name, self.rows, self.processors)?;
+        self.written(rt)
+    }
+}
+
+// 64 rows are allowed.
+fn most_rows(rt: &impl Print) -> io::Result<()> {
+    Case {
+        name: "64 rows (1,1,1) on 64 processors",
+        rows: &[1u32; 192],
+        processors: 64,
+        bounds: &[1u32; 64],
+        row: 63,
+        horizon: 1,
+    }
+    .every_entry(rt)
+}
+
+// 65 are not.
+fn one_row_more(rt: &impl Print) -> io::Result<()> {
+    Case {
+        name: "65 rows (1,1,1) on 64 processors",
+        rows: &[1u32; 195],
+        processors: 64,
+        bounds: &[1u32; 65],
+        row: 64,
+        horizon: 1,
+    }
+    .every_entry(rt)
 }
 
 // As many rows as are allowed, and one more.
 pub(crate) fn row_counts(rt: &impl Print) -> io::Result<()> {
-    every_entry(
-        rt,
-        b"64 rows (1,1,1) on 64 processors",
-        &[1u32; 192],
-        64,
-        &[1u32; 64],
-        63,
-        1,
-    )?;
-    every_entry(
-        rt,
-        b"65 rows (1,1,1) on 64 processors",
-        &[1u32; 195],
-        64,
-        &[1u32; 65],
-        64,
-        1,
-    )
+    most_rows(rt)?;
+    one_row_more(rt)
 }
 
 // Every entry on two rows, the second of which has the period.
-fn second_period(rt: &impl Print, name: &[u8], period: u32) -> io::Result<()> {
-    let rows = [1u32, 1, 1, 1, 1_000_000, period];
-    every_entry(rt, name, &rows, 2, &[1, 1_000_000], 1, 1_000_000)
+fn second_period(rt: &impl Print, name: &str, period: u32) -> io::Result<()> {
+    Case {
+        name,
+        rows: &[1, 1, 1, 1, 1_000_000, period],
+        processors: 2,
+        bounds: &[1, 1_000_000],
+        row: 1,
+        horizon: 1_000_000,
+    }
+    .every_entry(rt)
 }
 
 // As long a period as is allowed, and one more.
 pub(crate) fn periods(rt: &impl Print) -> io::Result<()> {
-    second_period(
-        rt,
-        b"(1,1,1),(1,1000000,1000000) on 2 processors",
-        1_000_000,
-    )?;
-    second_period(
-        rt,
-        b"(1,1,1),(1,1000000,1000001) on 2 processors",
-        1_000_001,
-    )
+    second_period(rt, "(1,1,1),(1,1000000,1000000) on 2 processors", 1_000_000)?;
+    second_period(rt, "(1,1,1),(1,1000000,1000001) on 2 processors", 1_000_001)
 }

@@ -4,8 +4,6 @@ use Rattle.pieces.specs.declared.Ended.{Ended}
 use Rattle.pieces.specs.Ending.{ending}
 use Rattle.board.proofs.circuitrail_pieces_end.Goals as goal
 
-pub returns : goal.returns
+pub returns-clause-answered : goal.returns-clause-answered
 unfolding ending
-returns c =
-    let end = c.end_sheet-ended.ensures in
-    record { answered = ap (λ (r : Ended). r.state) end.value; written = end.words_left }
+returns-clause-answered c = ap (λ (r : Ended). r.state) c.end_sheet-ended.ensures.value

@@ -1,12 +1,10 @@
--- The loop of `settle_rounds`: what lasts from turn to turn, and what falls.
-use mathlib.Core.Path.{◌≡◌}
-use lib.ListN.{length}
-use Rattle.model.specs.Sheet.{columns}
-use Rattle.refinement.specs.Inner.{Running, bounds_sum}
+-- The loop of `settle_rounds`: the bounds are on the way, and their sum falls.
+use Rattle.refinement.specs.Asked.{sheet, Underway}
+use Rattle.refinement.specs.Inner.{bounds_sum}
 use Rattle.engines.proofs.settle_rounds.Given as goal
 
-abbrev pub invariant-loop-outcome : goal.invariant-loop-outcome
-invariant-loop-outcome l = Running (columns l.costs l.deadlines l.periods) l.bounds l.count l.processors l.method × (length l.next ≡ l.count)
+abbrev pub invariant-loop-seen : goal.invariant-loop-seen
+invariant-loop-seen l = Underway l.asked l.bounds
 
-abbrev pub decreases-loop-outcome : goal.decreases-loop-outcome
-decreases-loop-outcome l = bounds_sum (columns l.costs l.deadlines l.periods) l.bounds
+abbrev pub decreases-loop-seen : goal.decreases-loop-seen
+decreases-loop-seen l = bounds_sum (sheet l.asked) l.bounds

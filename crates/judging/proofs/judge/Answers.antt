@@ -1,35 +1,27 @@
--- The rows are judged in the words that were read: a refusal leaves the lent words alone, and without one they are copied.
-use mathlib.Core.Path.{◌≡◌, ◌∙◌, ap}
+-- The rows are judged in the words that were read: what is handed over, and what is found, is by the same refusal.
+use mathlib.Core.Path.{sym, ap}
 use lib.ListN.{length}
-use Rattle.laws.proofs.Fill.{front_put}
-use Rattle.rows.specs.Checks.{words_refusal}
+use Rattle.refusals.specs.Refusals.{Refusal}
+use Rattle.rows.proofs.InOrder.{ended, numbered}
+use Rattle.grammar.specs.Told.{read_said}
 use Rattle.pieces.specs.Ending.{judged_refusal}
-use Rattle.pieces.proofs.Judged.{found_accepted, finding_refused, judged_passed}
+use Rattle.pieces.proofs.Judged.{found_accepted, finding_refused}
 use Rattle.judging.proofs.judge.Goals as goal
-use Rattle.judging.proofs.judge.Goals.{After-words_refusal-found}
 
--- What was found is the refusal of these processors and words.
-found : (c : After-words_refusal-found)
-    → let p = c.args in
-    c.words_refusal-found.result ≡ judged_refusal p.processors p.read.now (length p.words.now)
+pub returns-in_err-hand_over : goal.returns-in_err-hand_over
 unfolding judged_refusal
-found c =
+returns-in_err-hand_over c =
     let p = c.args in
-    c.words_refusal-found.ensures ∙ ap (words_refusal p.read.now) c.between_refusal-between.ensures
-
-pub returns-then-found-ne0 : goal.returns-then-found-ne0
-returns-then-found-ne0 c =
-    let p = c.args in
-    let both = finding_refused c.words_refusal-found.result _ p.processors p.rows p.read.now p.words.now c.refuse.result c.refuse.ensures
-    (found (goal.at.returns-then-found-ne0 c).After-words_refusal-found) c.if-found-ne0.true in record { value = both.0; words_left = both.1 }
-
-pub copy_front-requires : goal.copy_front-requires
-copy_front-requires c =
-    let p = c.args in
-    (judged_passed p.processors p.read.now (length p.words.now) (rw (found (goal.at.copy_front-requires c).After-words_refusal-found) at c.if-found-ne0.false)).enough
+    let both = finding_refused _ _ p.processors p.rows p.read.now p.words.now _ (ap read_said (ended _ _ c.from_residual.ensures.1))
+    c.in_err-hand_over.ensures.value (numbered _) in
+    record { value = both.0; words_left = c.hand_over.ensures.words_left }
 
 pub returns : goal.returns
+unfolding judged_refusal
 returns c =
     let p = c.args in
-    let refusal = judged_refusal p.processors p.read.now (length p.words.now) in
-    let none-holds : refusal.number ≡ 0 = rw (found (goal.at.returns c).After-words_refusal-found) at c.if-found-ne0.false in record { value = found_accepted refusal p.processors p.rows none-holds; words_left = c.copy_front.ensures ∙ front_put refusal.number p.read.now p.words.now none-holds }
+    record {
+      value = found_accepted (judged_refusal p.processors p.read.now (length p.words.now)) p.processors p.rows
+          (sym (ap (λ (r : Refusal). r.number) c.in_ok-hand_over.ensures.value));
+      words_left = c.hand_over.ensures.words_left;
+    }

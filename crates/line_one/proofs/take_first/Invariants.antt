@@ -1,11 +1,6 @@
--- The loop of `take_first`: what lasts from turn to turn, and what falls.
-use Prim.Native.Nat.{◌-◌}
-use lib.ListN.{length}
+-- The loop of `take_first`: what it has passed is taken.
 use Rattle.pieces.proofs.LineOne.{Begun}
 use Rattle.line_one.proofs.take_first.Given as goal
 
-abbrev pub invariant-loop-passed : goal.invariant-loop-passed
-invariant-loop-passed l = Begun l.initial.reached l.bytes l.reached l.passed
-
-abbrev pub decreases-loop-passed : goal.decreases-loop-passed
-decreases-loop-passed l = length l.bytes - l.passed
+abbrev pub invariant-loop-byte : goal.invariant-loop-byte
+invariant-loop-byte l = Begun l.initial.reached l.bytes l.reached l.byte-index

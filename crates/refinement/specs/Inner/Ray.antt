@@ -52,16 +52,10 @@ pub record Lower (v s l v' s' l' value slope limit : ℕ) : Type 0 where
   pub second : value ≤ v'
   pub lies : (f g : ℕ → ℕ) (most : ℕ) → Lies f most v s l → Lies g most v' s' l' → Lies (λ t. min (f t) (g t)) most value slope limit
 
--- No drop above a million, one for each of n rows.
-pub record Small (n : ℕ) (drops : List ℕ) : Type 0 where
-  pub one_each : length drops ≡ n
-  pub each : (i : ℕ) → i < n → get_or drops i 0 ≤ 1_000_000
-
--- What a row's way down asks: a sheet of allowed sizes, bounds in range, a drop for each row, and room for the steps asked for.
+-- What a row's way down asks: a sheet of allowed sizes, bounds in range, and room for the steps asked for.
 pub record OnWay (s : Sheet) (R drops : List ℕ) (row most : ℕ) : Type 0 where
   pub ready : Ready s R
   pub inside : row < s.rows
-  pub drops_small : Small s.rows drops
   pub room : (t : ℕ) → t < most → (i : ℕ) → i < s.rows → t * get_or drops i 0 + s.cost i ≤ get_or R i 0
   pub own : most * get_or drops row 0 + s.cost row ≤ get_or R row 0
 
@@ -107,13 +101,11 @@ Roomy s R drops most = (i : ℕ) → i < s.rows → most * get_or drops i 0 + s.
 -- What a pass down the ray leaves: lower bounds, and so many further steps that may be made at once.
 pub record Lowered (s : Sheet) (ask : Ask) (before after drops : List ℕ) (further : ℕ) : Type 0 where
   pub below : Below s.rows after before
-  pub drops_small : Small s.rows drops
   pub room : (i : ℕ) → i < s.rows → further * get_or drops i 0 ≤ get_or after i 0
   pub one_each : length after ≡ s.rows
   pub ahead : Held s ask (along s.rows after drops further)
 
--- What going down leaves: lower bounds that hold what bounds on the way hold, and drops as before in size.
-pub record Descended (s : Sheet) (ask : Ask) (before after drops : List ℕ) : Type 0 where
+-- What going down leaves: lower bounds that hold what bounds on the way hold.
+pub record Descended (s : Sheet) (ask : Ask) (before after : List ℕ) : Type 0 where
   pub held : Held s ask after
   pub below : Below s.rows after before
-  pub drops_small : Small s.rows drops

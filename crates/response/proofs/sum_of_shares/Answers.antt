@@ -1,29 +1,20 @@
--- `sum_of_shares` is the sum over the places passed; 64 terms of at most a million fit.
-use mathlib.Core.Path.{◌≡◌, refl, ◌∙◌, ap}
-use Prim.Native.Nat.{◌≤◌}
-use lib.ListN.{get_or}
-use Rattle.laws.specs.Sum.{total}
-use Rattle.laws.proofs.Sum.{total_step}
+-- `sum_of_shares` is the sum of the list, and so over its places; 64 shares of at most a million fit.
+use mathlib.Core.Path.{◌≡◌, ◌∙◌}
+use Prim.Native.Nat.{◌<◌}
+use lib.ListN.{length, get_or}
 use native.Mathlib.Omega.{arith}
+use Rattle.std.proofs.Common.{rules}
+use Rattle.std.specs.List.{sum}
+use Rattle.laws.proofs.Sum.{total-within}
+use Rattle.response.proofs.Listed.{sum-listed}
 use Rattle.response.proofs.sum_of_shares.Goals as goal
 
-pub loop-other-init : goal.loop-other-init
-unfolding total
-loop-other-init c = (omega arith, refl, omega arith)
-
-pub overflow_add-sum : goal.overflow_add-sum
-overflow_add-sum c =
-    let small : get_or c.args.taken.now c.loop-other.other 0 ≤ 1_000_000 = c.requires.2 c.loop-other.other (omega arith) in
-    omega (arith, c.requires.1)
-
-pub loop-other-preserved : goal.loop-other-preserved
-loop-other-preserved c =
-    let other = c.loop-other.other in
-    let small : get_or c.args.taken.now other 0 ≤ 1_000_000 = c.requires.2 other (omega arith) in
-    (omega arith, omega (arith, total_step (λ i. get_or c.args.taken.now i 0) other), omega arith)
+pub sum-requires-clause-fits : goal.sum-requires-clause-fits
+sum-requires-clause-fits c =
+    let shares = c.args.taken.now in
+    let small = total-within (λ i. get_or shares i 0) 1_000_000 (length shares) c.requires.1 in
+    let fits : sum shares < 4_294_967_296 = omega (arith, c.requires.0, sum-listed shares) in
+    search rules
 
 pub returns : goal.returns
-returns c =
-    let q = c.loop-other in
-    let done : q.other ≡ c.args.count = omega arith in
-    q.invariant.1 ∙ ap (total _) done
+returns c = let whole : c.sum.result ≡ sum c.args.taken.now = search rules in whole ∙ sum-listed c.args.taken.now

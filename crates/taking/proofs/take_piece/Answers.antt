@@ -2,7 +2,7 @@
 use native.Mathlib.Omega.{arith}
 use Rattle.grammar.specs.Grammar.{head}
 use Rattle.pieces.proofs.Steps.{stuck}
-use Rattle.pieces.proofs.LineOne.{first_wrong, first_all, first_then}
+use Rattle.pieces.proofs.LineOne.{first_wrong, first_all}
 use Rattle.taking.proofs.take_piece.Goals as goal
 
 pub returns-then-start-ne0 : goal.returns-then-start-ne0
@@ -20,9 +20,3 @@ returns-then-reached-lt-HEAD c = first_all _ _ _ _ c.take_first-reached.ensures 
 pub take_rows-requires : goal.take_rows-requires
 unfolding head
 take_rows-requires c = (omega arith, omega arith)
-
-pub returns : goal.returns
-returns c =
-    let rows = c.take_rows in
-    let first = c.take_first-reached in
-    first_then c.args.start c.args.bytes.now c.args.words.now first.result first.ensures rows.result rows.new.words rows.ensures

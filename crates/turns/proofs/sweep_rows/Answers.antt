@@ -1,78 +1,69 @@
--- `sweep_rows` stands where a sweep stands before each row, and one turn takes it on.
-use mathlib.Core.Path.{◌≡◌, ◌∙◌, sym, refl}
-use mathlib.Core.Logic.{inl, inr}
-use lib.ListN.{get_or, length-set}
-use Rattle.model.specs.Sheet.{columns}
-use Rattle.model.proofs.Sheet.{few_rows}
-use Rattle.rows.specs.Words.{found_of}
-use Rattle.refinement.specs.Refinement.{ask_of}
-use Rattle.refinement.specs.Question.{Ready}
-use Rattle.refinement.proofs.ByMethod.{found_told}
-use Rattle.refinement.proofs.Steps.{turn_found, ready_lower, sweep_start, sweep_end, sweeping_held, sweeping_below, sweep_on, ask_regular}
+-- `sweep_rows` stands where a sweep stands before each row, and where it has changed no bound, it has met the marks under them.
+use mathlib.Core.Path.{◌≡◌, refl, sym, ◌∙◌, ap}
+use Prim.Native.Nat.{ℕ, ◌≤◌}
+use native.Mathlib.Numerals.{add-one}
 use native.Mathlib.Omega.{arith}
+use lib.ListN.{set}
+use Rattle.std.specs.Cmp.Lexicographic.{same_text, other_text}
+use Rattle.laws.specs.Sum.{total}
+use Rattle.laws.specs.Bits.{bits}
+use Rattle.laws.proofs.Bits.{bits_below, bits_next}
+use Rattle.model.specs.Refine.{sweep}
+use Rattle.model.proofs.Sheet.{few_rows}
+use Rattle.model.proofs.Refine.{sweep_pass}
+use Rattle.refinement.specs.Asked.{sheet, ask}
+use Rattle.refinement.proofs.Steps.{asked_regular, sweep_ready, turn_found, mark_found, met_mark, met_marks, pass_moved, pass_still}
 use Rattle.turns.proofs.sweep_rows.Goals as goal
-use Rattle.turns.proofs.sweep_rows.Goals.{then-old-bound, else-old-bound}
-use Rattle.turns.proofs.sweep_rows.Goals.{After-found_of-found, In-loop-row}
+use Rattle.turns.proofs.sweep_rows.Goals.{After-eq}
 
 pub loop-row-init : goal.loop-row-init
-loop-row-init c = (omega (arith, c.requires.0.ready.one_each, c.requires.0.counted), sweep_start _ _ _, c.requires.1, c.requires.2, c.requires.3)
+unfolding sweep bits total
+loop-row-init c = (refl, refl)
 
--- The bounds are in range before each row.
-ready : (c : In-loop-row) → Ready (columns c.args.costs.now c.args.deadlines.now c.args.periods.now) c.loop-row.bounds
-ready c =
+pub invariant_of-given : goal.invariant_of-given
+invariant_of-given c =
     let q = c.loop-row in
-    let regular = ask_regular _ c.args.processors c.args.method in
-    ready_lower _ _ regular _ _ c.requires.0.ready (sweeping_held _ _ regular _ c.requires.0.held _ _ _ _ q.invariant.1) (sweeping_below _ _ regular _ c.requires.0.held _ _ _ _ q.invariant.1)
-
-pub bound_quickly-requires : goal.bound_quickly-requires
-bound_quickly-requires c =
-    let q = c.loop-row in
-    (ready (goal.at.bound_quickly-requires c).In-loop-row, omega (arith, c.requires.0.counted), c.requires.0.counted, c.requires.0.some_processor, c.requires.0.few, q.invariant.2, q.invariant.3, c.requires.4)
-
--- The row's answer.
-told : (c : After-found_of-found) → c.found_of-found.result ≡ found_of (ask_of (columns c.args.costs.now c.args.deadlines.now c.args.periods.now) c.args.processors c.args.method c.loop-row.row c.loop-row.bounds)
-unfolding ask_of
-told c =
-    let q = c.loop-row in
-    found_told _ q.bounds c.args.processors q.row c.args.method _ _ (ready (goal.at.After-found_of-found c).In-loop-row) (omega (arith, c.requires.0.counted)) c.bound_quickly.ensures c.found_of-found.ensures
+    let asked = c.args.asked.now in
+    let upto : q.row ≤ (sheet asked).rows = omega (arith, c.count-row-end.ensures) in
+    record { ready = rw q.invariant.0 (sweep_ready _ _ (asked_regular asked) _ c.requires.0.ready c.requires.0.held q.row upto) }
 
 pub with_mark-seen-requires : goal.with_mark-seen-requires
-with_mark-seen-requires c = (omega (arith, few_rows _ c.requires.0.ready.rows, c.requires.0.counted), c.loop-row.invariant.1.small)
-
-pub bounds-before-row : goal.bounds-before-row
-bounds-before-row c = omega (arith, c.loop-row.invariant.4)
+with_mark-seen-requires c =
+    let q = c.loop-row in
+    (omega (arith, few_rows _ c.requires.0.ready.rows, c.count-row-end.ensures), rw q.invariant.1 (bits_below _ q.row))
 
 pub loop-row-preserved : goal.loop-row-preserved
-unfolding ask_of columns
+unfolding sweep met_mark
 loop-row-preserved c =
     let q = c.loop-row in
-    let asked = c.bound_quickly in
-    let found = told (goal.at.loop-row-preserved c).After-found_of-found in
-    let bound = c.bound_or-bound in (
-      length-set q.bounds q.row bound.result ∙ q.invariant.0,
-      rw c.with_mark-seen.ensures
-          (sweep_on _ _ (ask_regular _ c.args.processors c.args.method)
-          c.args.bounds.now c.requires.0.held q.bounds q.moved q.seen q.row q.invariant.1 c.found_of-found.result bound.result c.if-old-bound.moved
-          (omega (arith, c.loop-row-test, c.requires.0.counted)) found (turn_found _ _ _ _ _ _ _ found refl bound.ensures)
-          (elim c.if-old-bound.branch [ then-old-bound w ↦ inl (w.if-old-bound.true, w.moved-is) | else-old-bound w ↦ inr (w.if-old-bound.false, w.moved-is) ])),
-      asked.auto.others ∙ q.invariant.2,
-      asked.auto.room ∙ q.invariant.3,
-      length-set q.before q.row (get_or q.bounds q.row 0) ∙ q.invariant.4,
+    let found = rw q.invariant.0 at c.bound_quickly-found.ensures in (
+      rw (add-one, q.invariant.0) (ap (set _ q.row) (turn_found _ _ _ _ _ _ _ found c.deadline.ensures c.unwrap_or.ensures)),
+      c.with_mark-seen.ensures ∙ bits_next _ q.row q.seen _ q.invariant.1 (mark_found _ _ _ _ found),
     )
 
-pub shape_of-bounds : goal.shape_of-bounds
-shape_of-bounds c = c.loop-row.invariant.0 ∙ c.requires.0.counted ∙ sym c.requires.0.ready.one_each
+-- The rows are done.
+done : (c : After-eq) → c.loop-row.row ≡ (sheet c.args.asked.now).rows
+done c = omega (arith, c.count-row-end.ensures)
 
-pub shape_of-before : goal.shape_of-before
-shape_of-before c = c.loop-row.invariant.4 ∙ sym c.requires.3
+-- So the bounds are what a sweep leaves.
+swept : (c : After-eq) → let asked = c.args.asked.now in c.loop-row.bounds ≡ sweep (sheet asked) (ask asked) (sheet asked).rows c.args.bounds.now
+swept c =
+    let asked = c.args.asked.now in
+    c.loop-row.invariant.0 ∙ ap (λ (n : ℕ). sweep (sheet asked) (ask asked) n c.args.bounds.now) (done (goal.at.After-eq c).After-eq)
 
-pub shape_of-others : goal.shape_of-others
-shape_of-others c = c.loop-row.invariant.2 ∙ sym c.requires.1
+pub returns-then-eq : goal.returns-then-eq
+returns-then-eq c =
+    let asked = c.args.asked.now in
+    let passed = swept (goal.at.returns-then-eq c).After-eq in
+    let same : c.loop-row.bounds ≡ c.args.bounds.now = same_text _ _ c.if-eq.ensures ∙ c.copy_from_slice.ensures.after in
+    pass_still _ _ _ _ _ _ passed same
+    (c.loop-row.invariant.1
+    ∙ ap (bits _) (done (goal.at.returns-then-eq c).After-eq)
+    ∙ met_marks _ _ (asked_regular asked) _ c.requires.0.held (sym passed ∙ same))
 
-pub shape_of-room : goal.shape_of-room
-shape_of-room c = c.loop-row.invariant.3 ∙ sym c.requires.2
-
-pub returns : goal.returns
-returns c =
-    let q = c.loop-row in
-    sweep_end _ _ _ _ _ _ q.row q.invariant.1 (omega (arith, q.invariant.1.upto, c.requires.0.counted))
+pub returns-else-eq : goal.returns-else-eq
+returns-else-eq c =
+    let asked = c.args.asked.now in
+    let regular = asked_regular asked in
+    pass_moved _ _ regular _ (sweep_pass _ _ regular) _ _ c.requires.0.held (swept (goal.at.returns-else-eq c).After-eq)
+    (λ same. other_text _ _ c.if-eq.ensures (same ∙ sym c.copy_from_slice.ensures.after))

@@ -1,18 +1,11 @@
--- The loop of `sweep_rows`: what lasts from turn to turn, and what falls.
+-- The loop of `sweep_rows`: the bounds stand where the definition's sweep stands, and the marks are those that it met.
 use mathlib.Core.Path.{◌≡◌}
-use Prim.Native.Nat.{◌-◌}
-use lib.ListN.{length}
-use Rattle.model.specs.Sheet.{columns}
-use Rattle.refinement.specs.Refinement.{ask_of}
-use Rattle.refinement.proofs.Steps.{Sweeping}
+use Rattle.laws.specs.Bits.{bits}
+use Rattle.model.specs.Refine.{sweep}
+use Rattle.refinement.specs.Asked.{sheet, ask}
+use Rattle.refinement.proofs.Steps.{met_mark}
 use Rattle.turns.proofs.sweep_rows.Given as goal
 
 abbrev pub invariant-loop-row : goal.invariant-loop-row
-invariant-loop-row l = (length l.bounds ≡ l.count)
-    × Sweeping (columns l.costs l.deadlines l.periods) (ask_of (columns l.costs l.deadlines l.periods) l.processors l.method) l.initial.bounds l.bounds l.moved l.seen l.row
-    × (length l.others ≡ 320)
-    × (length l.room ≡ l.count)
-    × (length l.before ≡ l.count)
-
-abbrev pub decreases-loop-row : goal.decreases-loop-row
-decreases-loop-row l = l.count - l.row
+invariant-loop-row l = (l.bounds ≡ sweep (sheet l.asked) (ask l.asked) l.row l.initial.bounds)
+    × (l.seen ≡ bits (met_mark (sheet l.asked) (ask l.asked) l.initial.bounds) l.row)

@@ -12,10 +12,10 @@ above : (seen row : ℕ) → row < 64 → seen < 2 ^ row → bit_or seen ((1 * 2
 above seen row inside small =
     rw (shl_exact {a = 1} 1 row 64 (omega arith) (omega arith)) (or_shifted_r 1 row seen small ∙ add_comm (1 * 2 ^ row) seen)
 
-pub returns-in-At : goal.returns-in-At
+pub returns-in-Some : goal.returns-in-Some
 unfolding is_found
-returns-in-At c = rw c.in-At.is (above c.args.seen c.args.row c.requires.0 c.requires.1)
+returns-in-Some c = rw c.in-Some.is (above c.args.seen c.args.row c.requires.0 c.requires.1)
 
-pub returns-in-Nowhere : goal.returns-in-Nowhere
+pub returns-in-None : goal.returns-in-None
 unfolding is_found
-returns-in-Nowhere c = rw c.in-Nowhere.is (omega arith)
+returns-in-None c = rw c.in-None.is (omega arith)

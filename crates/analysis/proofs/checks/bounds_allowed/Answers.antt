@@ -1,29 +1,22 @@
--- `bounds_allowed` passes every row or stops at one that fails.
-use mathlib.Core.Path.{◌≡◌, refl, sym, ◌∙◌, ap}
-use Rattle.laws.specs.Bits.{every}
-use Rattle.laws.proofs.Bits.{every_more, every_fails}
+-- Every row's bound is allowed, or one is not: so said `all`, of the rows from 0 on.
+use mathlib.Core.Path.{◌≡◌, refl, ◌∙◌, ap}
+use mathlib.Core.Bool.{Bool, true, false}
+use Prim.Native.Nat.{ℕ}
 use native.Mathlib.Omega.{arith}
-use mathlib.Core.Path.{ap}
+use Rattle.std.proofs.Common.{rules}
+use Rattle.std.proofs.lemmas.Iterator.{cases_from_all, YieldsList-from_range}
+use Rattle.columns.specs.Rows.{sheet_in}
+use Rattle.refinement.specs.Question.{bound_allowed}
+use Rattle.laws.specs.Bits.{every}
+use Rattle.marks.proofs.Counted.{counted}
 use Rattle.analysis.proofs.checks.bounds_allowed.Goals as goal
-
-pub loop-row-init : goal.loop-row-init
-unfolding every
-loop-row-init c = (omega arith, refl)
-
-pub returns-then-not-bound_allowed : goal.returns-then-not-bound_allowed
-returns-then-not-bound_allowed c =
-    sym
-    (every_fails _ _ c.loop-row.row (omega arith)
-    (sym c.bound_allowed.ensures ∙ c.if-not-bound_allowed.true))
-
-pub loop-row-preserved : goal.loop-row-preserved
-loop-row-preserved c = (
-  omega arith,
-  every_more _ _ c.loop-row.invariant.1 (sym c.bound_allowed.ensures ∙ c.if-not-bound_allowed.false),
-)
 
 pub returns : goal.returns
 returns c =
-    let q = c.loop-row in
-    let done : q.row ≡ c.args.count = omega arith in
-    sym q.invariant.1 ∙ ap (every _) done
+    let rows = c.count.result in
+    let passes : ℕ → Bool = bound_allowed (sheet_in c.args.rows.now) c.args.bounds.now in
+    counted passes rows c.all.result
+    (cases_from_all _ _ _ (λ k. passes k ≡ true) (λ k. passes k ≡ false) c.all.ensures.ran (YieldsList-from_range 0 rows rows refl (omega arith))
+    (λ x q k. search rules)
+    (λ x q k. search rules))
+    ∙ ap (every passes) c.count.ensures

@@ -3,7 +3,7 @@ use mathlib.Core.List.{◌++◌}
 use Prim.Native.Nat.{◌-◌}
 use native.Mathlib.Omega.{arith}
 use Rattle.digits.specs.Digits.{digits}
-use Rattle.digits.proofs.Line.{Begun, not_begun, with_digits_lem, end_inside, ended-length, line-ended}
+use Rattle.digits.proofs.Line.{Begun, not_begun, with_digits_lem, end_inside, line-ended}
 use Rattle.grammar.specs.Grammar.{head}
 use Rattle.grammar.specs.Lines.{first_line}
 use Rattle.sheet.proofs.writer.put_first_line.Goals as goal
@@ -25,10 +25,6 @@ begun c =
 pub bounds-out-6 : goal.bounds-out-6
 unfolding head
 bounds-out-6 c = end_inside (begun (goal.at.bounds-out-6 c).After-slice_known-4-1) c.requires
-
-pub shape_of-out : goal.shape_of-out
-unfolding head
-shape_of-out c = ended-length 0x0A (begun (goal.at.shape_of-out c).After-slice_known-4-1) c.requires
 
 pub returns : goal.returns
 unfolding first_line head

@@ -1,15 +1,14 @@
 -- A whole sheet: line one is put in front, and the rows are put into the part behind it.
-use Prim.Native.Nat.{ℕ, ◌+◌, ◌*◌, ◌-◌, ◌≤◌}
+use Prim.Native.Nat.{◌+◌, ◌*◌, ◌-◌, ◌≤◌}
 use mathlib.Core.Path.{◌≡◌, sym, ◌∙◌, ap}
 use mathlib.Core.List.{◌++◌}
 use native.Mathlib.Omega.{arith}
 use lib.ListN.{length, drop, length-drop}
 use lib.Seq.{length-take-le}
-use Rattle.laws.specs.Fill.{joined}
 use Rattle.laws.proofs.Fill.{front_kept}
 use Rattle.rows.specs.Words.{sheet_of}
 use Rattle.grammar.specs.Grammar.{head, line, sheet_length}
-use Rattle.grammar.specs.Lines.{first_line, line_of}
+use Rattle.grammar.specs.Lines.{first_line}
 use Rattle.grammar.proofs.Lines.{first_line-length, sheet_put}
 use Rattle.sheet.proofs.writer.put_sheet.Goals as goal
 use Rattle.sheet.proofs.writer.put_sheet.Goals.{After-put_first_line, Start}
@@ -35,7 +34,7 @@ first-line : (c : After-put_first_line)
     → c.put_first_line.new.out ≡ first_line c.args.processors (sheet_of c.args.words.now).rows
 first-line c =
     c.put_first_line.ensures
-    ∙ ap (first_line c.args.processors) c.row_count-rows.ensures
+    ∙ ap (first_line c.args.processors) c.row_count.ensures
 
 -- With line one in front the output has the length that it came with: that of the sheet.
 kept : (c : After-put_first_line) → length (c.put_first_line.new.out ++ drop head c.args.out.now) ≡ length c.args.out.now
@@ -57,9 +56,7 @@ put_rows-requires c =
     let whole = c.put_first_line.new.out ++ drop head c.args.out.now in
     let full : length whole ≡ head + line * (sheet_of c.args.words.now).rows = kept (goal.at.put_rows-requires c).After-put_first_line ∙ c.requires.1 in
     let rest : length whole - head ≡ line * (sheet_of c.args.words.now).rows = omega arith in
-    length-take-le (length whole - head) (drop head whole) (rw (length-drop head whole) (omega arith))
-    ∙ rest
-    ∙ ap (λ (n : ℕ). line * n) (sym c.row_count-rows.ensures)
+    (c.requires.0, length-take-le (length whole - head) (drop head whole) (rw (length-drop head whole) (omega arith)) ∙ rest)
 
 pub returns : goal.returns
 unfolding head
@@ -67,4 +64,4 @@ returns c =
     let s = sheet_of c.args.words.now in
     sheet_put s c.args.processors c.put_first_line.new.out _ c.args.out.now
     c.requires.1 (first-line (goal.at.returns c).After-put_first_line)
-    (c.put_rows.ensures ∙ ap (joined (line_of s)) c.row_count-rows.ensures)
+    c.put_rows.ensures

@@ -1,7 +1,0 @@
--- `circuitrail_density` tells the entry's answer in numbers.
-use mathlib.Core.Path.{◌∙◌, ap}
-use Rattle.board.specs.Face.{density_in_numbers}
-use Rattle.board.proofs.circuitrail_density.Goals as goal
-
-pub returns : goal.returns
-returns c = c.density_numbers.ensures ∙ ap density_in_numbers c.density.ensures
