@@ -48,27 +48,20 @@ impl Case<'_> {
     }
 }
 
-// 64 rows are allowed.
-fn most_rows(rt: &impl Print) -> io::Result<()> {
+// Every entry on rows (1,1,1), the last of which is at a place.
+fn equal_rows(
+    rt: &impl Print,
+    name: &str,
+    rows: &[u32],
+    bounds: &[u32],
+    row: u32,
+) -> io::Result<()> {
     Case {
-        name: "64 rows (1,1,1) on 64 processors",
-        rows: &[1u32; 192],
+        name,
+        rows,
         processors: 64,
-        bounds: &[1u32; 64],
-        row: 63,
-        horizon: 1,
-    }
-    .every_entry(rt)
-}
-
-// 65 are not.
-fn one_row_more(rt: &impl Print) -> io::Result<()> {
-    Case {
-        name: "65 rows (1,1,1) on 64 processors",
-        rows: &[1u32; 195],
-        processors: 64,
-        bounds: &[1u32; 65],
-        row: 64,
+        bounds,
+        row,
         horizon: 1,
     }
     .every_entry(rt)
@@ -76,8 +69,20 @@ fn one_row_more(rt: &impl Print) -> io::Result<()> {
 
 // As many rows as are allowed, and one more.
 pub(crate) fn row_counts(rt: &impl Print) -> io::Result<()> {
-    most_rows(rt)?;
-    one_row_more(rt)
+    equal_rows(
+        rt,
+        "64 rows (1,1,1) on 64 processors",
+        &[1; 192],
+        &[1; 64],
+        63,
+    )?;
+    equal_rows(
+        rt,
+        "65 rows (1,1,1) on 64 processors",
+        &[1; 195],
+        &[1; 65],
+        64,
+    )
 }
 
 // Every entry on two rows, the second of which has the period.
